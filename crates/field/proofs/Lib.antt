@@ -1,0 +1,10 @@
+-- Laws for the layers above, stated once over the modulus, and for refusals.
+pub mod Truth
+pub mod Words
+pub mod Residue
+pub mod Coprime
+pub mod Prime
+pub mod Trial
+pub mod Refusal
+pub mod Tests
+pub mod Unique

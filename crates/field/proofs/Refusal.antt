@@ -1,0 +1,47 @@
+-- An order gives at most one number, and none where no test holds: two outcomes of one call are both answers or both the same refusal.
+use mathlib.Core.Path.{_≡_, sym, _∙_}
+use mathlib.Core.Logic.{_⊎_, inl, inr}
+use mathlib.Core.List.{[], _∷_, _++_}
+use Prim.Native.Nat.{ℕ}
+use Rattle.field.specs.Refusal.{Order, NoTest, First, Outcome}
+
+pub first-unique : (o : Order) (j k : ℕ) → First o j → First o k → j ≡ k
+unfolding First
+first-unique [] j k a b = absurd a
+first-unique (l ∷ o) j k (inl a) (inl b) = sym (a .1) ∙ b .1
+first-unique (l ∷ o) j k (inl a) (inr b) = absurd (b .0 (a .0))
+first-unique (l ∷ o) j k (inr a) (inl b) = absurd (a .0 (b .0))
+first-unique (l ∷ o) j k (inr a) (inr b) = first-unique o j k (a .1) (b .1)
+
+pub first-or-none : (o : Order) (k : ℕ) → First o k → NoTest o → ⊥
+unfolding First NoTest
+first-or-none [] k a b = a
+first-or-none (l ∷ o) k (inl a) b = b .0 (a .0)
+first-or-none (l ∷ o) k (inr a) b = first-or-none o k (a .1) (b .1)
+
+-- tests in a row
+pub none-both : (o o′ : Order) → NoTest o → NoTest o′ → NoTest (o ++ o′)
+unfolding NoTest
+none-both [] o′ a b = b
+none-both (l ∷ o) o′ a b = (a .0, none-both o o′ (a .1) b)
+
+pub first-left : (o o′ : Order) (k : ℕ) → First o k → First (o ++ o′) k
+unfolding First
+first-left [] o′ k a = absurd a
+first-left (l ∷ o) o′ k (inl a) = inl a
+first-left (l ∷ o) o′ k (inr a) = inr (a .0, first-left o o′ k (a .1))
+
+pub first-right : (o o′ : Order) (k : ℕ) → NoTest o → First o′ k → First (o ++ o′) k
+unfolding First NoTest
+first-right [] o′ k a b = b
+first-right (l ∷ o) o′ k a b = inr (a .0, first-right o o′ k (a .1) b)
+
+-- two outcomes of one order
+pub same-outcome : (o : Order) (R R′ : ℕ → Type 0) (A A′ : Type 0) → Outcome o R A → Outcome o R′ A′
+    → (A × A′) ⊎ ((k : ℕ) × R k × R′ k)
+unfolding Outcome
+same-outcome o R R′ A A′ (inl a) (inl b) = inl (a .1, b .1)
+same-outcome o R R′ A A′ (inl a) (inr b) = absurd (first-or-none o (b .0) (b .1) (a .0))
+same-outcome o R R′ A A′ (inr a) (inl b) = absurd (first-or-none o (a .0) (a .1) (b .0))
+same-outcome o R R′ A A′ (inr a) (inr b) =
+    inr (a .0, a .2, rw (first-unique o (a .0) (b .0) (a .1) (b .1)) (b .2))

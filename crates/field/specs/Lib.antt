@@ -1,0 +1,8 @@
+-- What the field's contracts cite.
+pub mod Prime
+pub mod Coprime
+pub mod Modulus
+pub mod Inverse
+pub mod Refusal
+pub mod Answer
+pub mod Calls

@@ -1,0 +1,199 @@
+// The field of residues modulo a prime: the calls given to users, which test every argument, and the operations that only the engine uses.
+ghost use mathlib.Core.Path.{_≡_};
+ghost use mathlib.Core.Bool.{true};
+ghost use mathlib.Core.Logic.{_↔_};
+ghost use Prim.Native.Nat.{_+_, _*_, _%_, _^_, _<_};
+ghost use Rattle.field.specs.Prime.{Prime};
+ghost use Rattle.field.specs.Modulus.{Modulus};
+ghost use Rattle.field.specs.Inverse.{Inverse};
+ghost use Rattle.field.specs.Calls.{Tests, operandOrder, operandsOrder, fieldSays, residueSays, inverseSays, MakeOutcome, ResidueOutcome, AddOutcome, MultiplyOutcome, InvertOutcome};
+ghost use Rattle.field.specs.Coprime.{Coprime};
+
+pub struct Field {
+    pub modulus: u32,
+}
+
+// What the tests of a call find.
+pub enum Tested {
+    Passed,
+    Refused(u32),
+}
+
+pub enum FieldAnswer {
+    Is(Field),
+    Refused(u32),
+}
+
+pub enum ResidueAnswer {
+    Is(u32),
+    Refused(u32),
+}
+
+pub enum InverseAnswer {
+    Is(u32),
+    Refused(u32),
+    OfZero,
+}
+
+// Whether an odd number above 1 has no divisor from 3 to its square root; even divisors are skipped.
+fn odd_is_prime(n: u32) -> bool
+    requires { ⌜ (1 < n) × (n % 2 ≡ 1) ⌝ }
+    ensures { λ r. ⌜ (r ≡ true) ↔ Prime n ⌝ }
+{
+    let mut d = 3;
+    while d <= n / d {
+        if n % d == 0 {
+            return false;
+        }
+        d += 2;
+    }
+    true
+}
+
+// By trial division: the work grows with the square root.
+pub fn is_prime(n: u32) -> bool
+    ensures { λ r. ⌜ (r ≡ true) ↔ Prime n ⌝ }
+{
+    if n < 2 {
+        return false;
+    }
+    if n % 2 == 0 {
+        return n == 2;
+    }
+    odd_is_prime(n)
+}
+
+// The inverse of b modulo a by Euclid's steps: from r * x = 1 + k * b follows b * (q * x + k) = a * x - 1, for a = q * b + r.
+fn euclid(a: u64, b: u64) -> u64
+    requires { ⌜ (0 < b) × (b < a) × (a < 2 ^ 32) × Coprime a b ⌝ }
+    ensures { λ x. ⌜ Inverse a b x ⌝ }
+{
+    if b == 1 {
+        return 1;
+    }
+    let q = a / b;
+    let r = a % b;
+    let x = euclid(b, r);
+    let k = r * x / b;
+    a - (q * x + k)
+}
+
+impl Field {
+    pub const LARGEST: u32 = 2147483647;
+
+    pub fn admits(p: u32) -> bool
+        ensures { λ r. ⌜ (r ≡ true) ↔ Modulus p ⌝ }
+    {
+        if p > Field::LARGEST {
+            return false;
+        }
+        is_prime(p)
+    }
+
+    // The tests of a call with one operand.
+    fn test_operand(p: u32, a: u32) -> Tested
+        ensures { λ r. ⌜ Tests (operandOrder p a) r ⌝ }
+    {
+        if !Field::admits(p) {
+            return Tested::Refused(1);
+        }
+        if a >= p {
+            return Tested::Refused(6);
+        }
+        Tested::Passed
+    }
+
+    // The tests of a call with two operands.
+    fn test_operands(p: u32, a: u32, b: u32) -> Tested
+        ensures { λ r. ⌜ Tests (operandsOrder p a b) r ⌝ }
+    {
+        match Field::test_operand(p, a) {
+            Tested::Passed => {
+                if b >= p {
+                    Tested::Refused(6)
+                } else {
+                    Tested::Passed
+                }
+            }
+            Tested::Refused(k) => Tested::Refused(k),
+        }
+    }
+
+    pub fn make(p: u32) -> FieldAnswer
+        ensures { λ r. ⌜ MakeOutcome p (fieldSays r) ⌝ }
+    {
+        if Field::admits(p) {
+            FieldAnswer::Is(Field { modulus: p })
+        } else {
+            FieldAnswer::Refused(1)
+        }
+    }
+
+    // The residue of n, where the operands a and b pass the tests.
+    fn residue_of(p: u32, a: u32, b: u32, n: u64) -> ResidueAnswer
+        ensures { λ r. ⌜ ResidueOutcome p a b n (residueSays r) ⌝ }
+    {
+        match Field::test_operands(p, a, b) {
+            Tested::Passed => ResidueAnswer::Is(Field { modulus: p }.residue(n)),
+            Tested::Refused(k) => ResidueAnswer::Refused(k),
+        }
+    }
+
+    pub fn add(p: u32, a: u32, b: u32) -> ResidueAnswer
+        ensures { λ r. ⌜ AddOutcome p a b (residueSays r) ⌝ }
+    {
+        Field::residue_of(p, a, b, a as u64 + b as u64)
+    }
+
+    pub fn multiply(p: u32, a: u32, b: u32) -> ResidueAnswer
+        ensures { λ r. ⌜ MultiplyOutcome p a b (residueSays r) ⌝ }
+    {
+        Field::residue_of(p, a, b, a as u64 * b as u64)
+    }
+
+    pub fn invert(p: u32, a: u32) -> InverseAnswer
+        ensures { λ r. ⌜ InvertOutcome p a (inverseSays r) ⌝ }
+    {
+        match Field::test_operand(p, a) {
+            Tested::Passed => {
+                if a == 0 {
+                    InverseAnswer::OfZero
+                } else {
+                    InverseAnswer::Is(Field { modulus: p }.inverse(a))
+                }
+            }
+            Tested::Refused(k) => InverseAnswer::Refused(k),
+        }
+    }
+
+    fn residue(self, n: u64) -> u32
+        requires { ⌜ 0 < self .modulus ⌝ }
+        ensures { λ r. ⌜ r ≡ n % self .modulus ⌝ }
+    {
+        (n % self.modulus as u64) as u32
+    }
+
+    // a + b * c: what sums, products and cleared rows are made of. It fits 64 bits whatever the words are.
+    pub fn plus_product(self, a: u32, b: u32, c: u32) -> u32
+        requires { ⌜ 0 < self .modulus ⌝ }
+        ensures { λ r. ⌜ r ≡ (a + b * c) % self .modulus ⌝ }
+    {
+        self.residue(a as u64 + b as u64 * c as u64)
+    }
+
+    // The number to add for a difference.
+    pub fn negative(self, a: u32) -> u32
+        requires { ⌜ (0 < self .modulus) × (a < self .modulus) ⌝ }
+        ensures { λ r. ⌜ (r < self .modulus) × ((a + r) % self .modulus ≡ 0) ⌝ }
+    {
+        let p = self.modulus;
+        (p - a) % p
+    }
+
+    pub fn inverse(self, a: u32) -> u32
+        requires { ⌜ Prime (self .modulus) × (0 < a) × (a < self .modulus) ⌝ }
+        ensures { λ r. ⌜ Inverse (self .modulus) a r ⌝ }
+    {
+        euclid(self.modulus as u64, a as u64) as u32
+    }
+}
