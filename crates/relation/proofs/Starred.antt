@@ -1,0 +1,272 @@
+-- Every starred case holds: one test, computed over the whole table, that shows the definitions.
+--   primeTest, vectorTest, leadTest, zerosTest   prime; vector; leading position; common leading zeros
+--   minimalTest, answerTest, caseTest            a minimal basis, by the criterion; an answer; a case
+--   starred-hold                                 the statement
+-- And three answers that are wrong or not reduced.
+use mathlib.Core.Path.{_≡_, refl}
+use mathlib.Core.Logic.{_≢_, _⊎_, inl, inr}
+use mathlib.Core.List.{List, [], _∷_}
+use Prim.Native.Nat.{ℕ, zero, suc, _+_, _*_, _-_, _%_, _≤_, _<_}
+use native.Mathlib.Nat.{mul-mod-right, mul-zero, zero-mul, le-mul-of-pos-right}
+use native.Mathlib.Decide.{ℕ-discrete, decLt}
+use native.Mathlib.Omega.{arith}
+use lib.IntN.{ℤ, pos}
+use lib.ListN.{length, getD, List·getD-eq-default}
+use Rattle.field.specs.Prime.{Prime}
+use Rattle.relation.specs.Sum.{sumTo}
+use Rattle.relation.specs.Product.{conv, dot}
+use Rattle.relation.specs.Vector.{Vect, IsVec}
+use Rattle.relation.specs.LeadingZeros.{LeadingZeros}
+use Rattle.relation.specs.ShiftedDegree.{shift}
+use Rattle.relation.specs.MinimalBasis.{MinimalBasis}
+use Rattle.relation.specs.Reduced.{Reduced}
+use Rattle.relation.specs.Sigma.{sumℤ, sigma}
+use Rattle.relation.specs.Approximant.{Approximant}
+use Rattle.relation.specs.Pair.{pairSeries, pairType, Pair}
+use Rattle.relation.specs.Starred.{poly, vector, rowsOf, typeOf, Answer, Right, Case, basis, approximant, pair, inverse, Holds, AllHold, starred, c1, c1-answer}
+use Rattle.relation.proofs.Test.{Test, passed, from, equalList, equal, atMost, below, nonzero, equalℤ, both, either, every, some}
+use Rattle.relation.proofs.Vector.{zeroVector}
+use Rattle.relation.proofs.Weight.{weight, LeadsAt}
+use Rattle.relation.proofs.Shift.{less, base, offsets, offset}
+use Rattle.relation.proofs.Basis.{WeightBasis, ReducedAt}
+use Rattle.relation.proofs.Existence.{criterion}
+use Rattle.relation.proofs.Bridge.{basis→minimal, basis→reduced, basis→pivot, basis→degree, basis→least}
+use Rattle.relation.proofs.Shrink.{basis→count}
+
+-- p is above 1, and no number from 2 to p - 1 divides it
+prime-by : (p : ℕ) → 1 < p → ((d : ℕ) → d < p → (d ≤ 1) ⊎ (p % d ≢ 0)) → Prime p
+prime-by p above h = record { above-one = above; only = λ d v. only d (v .0) (v .1) }
+  where
+    only : (d q : ℕ) → d * q ≡ p → (d ≡ 1) ⊎ (d ≡ p)
+    only d zero e = absurd (omega (arith, mul-zero d))
+    only zero (suc q) e = absurd (omega (arith, zero-mul (suc q)))
+    only (suc d) (suc q) e = elim (ℕ-discrete (suc d) p) [
+      | yes r ↦ inr r
+      | no nr ↦ elim (h (suc d) (omega (arith, le-mul-of-pos-right {m = suc q} (suc d) (omega arith)))) [
+        | inl l ↦ inl (omega arith)
+        | inr z ↦ absurd (z (rw (← e) (mul-mod-right (suc d) (suc q))))
+      ]
+    ]
+
+abbrev primeTest : (p : ℕ) → Test (Prime p)
+primeTest p = from (both (below 1 p) (every p (λ d. either (atMost d 1) (nonzero (p % d))))) (λ t. prime-by p (t .0) (t .1))
+
+-- a vector whose entries end at w
+record Fits (p n w : ℕ) (P : Vect) : Type 0 where
+  vec : IsVec p n P
+  end : (i k : ℕ) → w ≤ k → P i k ≡ 0
+
+module _ (p n w : ℕ) (l : List (List ℕ)) (hp : 0 < p) (entries : length l ≤ n) (ends : (i : ℕ) → i < n → length (getD l i []) ≤ w)
+    (small : (i : ℕ) → i < n → (k : ℕ) → k < w → vector l i k < p) where
+  past-entries : (i k : ℕ) → n ≤ i → vector l i k ≡ 0
+  past-entries i k h = rw (List·getD-eq-default l [] {n = i} (omega arith)) refl
+
+  past-end : (i k : ℕ) → w ≤ k → vector l i k ≡ 0
+  past-end i k h = elim (decLt i n) [
+    | yes hi ↦ List·getD-eq-default (getD l i []) 0 {n = k} (omega (arith, ends i hi))
+    | no g ↦ past-entries i k (omega arith)
+  ]
+
+  fits : Fits p n w (vector l)
+  fits = record {
+    vec = record {
+      small = λ i k. elim (decLt i n) [
+        | yes hi ↦ elim (decLt k w) [
+          | yes hk ↦ small i hi k hk
+          | no g ↦ rw (past-end i k (omega arith)) hp
+        ]
+        | no g ↦ rw (past-entries i k (omega arith)) hp
+      ];
+      out = past-entries;
+      bound = w;
+      high = past-end;
+    };
+    end = past-end;
+  }
+
+abbrev vectorTest : (p n w : ℕ) (l : List (List ℕ)) → Test (Fits p n w (vector l))
+vectorTest p n w l = from
+    (both (below 0 p) (both (atMost (length l) n) (both (every n (λ i. atMost (length (getD l i [])) w)) (every n (λ i. every w (λ k. below (vector l i k) p))))))
+    (λ t. fits p n w l (t .0) (t .1 .0) (t .1 .1 .0) (t .1 .1 .1))
+
+-- (i, e) leads a vector that ends at w
+lead-by : (n : ℕ) (b : ℕ → ℕ) (w : ℕ) (P : Vect) (i e : ℕ) → ((j k : ℕ) → w ≤ k → P j k ≡ 0) → P i e ≢ 0
+    → ((j : ℕ) → j < n → (k : ℕ) → k < w → (weight n b j k ≤ weight n b i e) ⊎ (P j k ≡ 0)) → LeadsAt n b P i e
+lead-by n b w P i e end nz h = record {
+  nonzero = nz;
+  above = λ j k hj g. elim (decLt k w) [
+    | yes hk ↦ elim (h j hj k hk) [ inl l ↦ absurd (omega arith) | inr z ↦ z ]
+    | no nk ↦ end j k (omega arith)
+  ];
+}
+
+abbrev leadTest : (p n : ℕ) (b : ℕ → ℕ) (w : ℕ) (l : List (List ℕ)) (i e : ℕ) → Test (Fits p n w (vector l) × LeadsAt n b (vector l) i e)
+leadTest p n b w l i e = from
+    (both (vectorTest p n w l) (both (nonzero (vector l i e)) (every n (λ j. every w (λ k. either (atMost (weight n b j k) (weight n b i e)) (equal (vector l j k) 0))))))
+    (λ t. (t .0, lead-by n b w (vector l) i e (t .0 .end) (t .1 .0) (t .1 .1)))
+
+zeros-by : (p n : ℕ) (F : Vect) (s m : ℕ) → m ≤ s → ((k : ℕ) → k < m → (i : ℕ) → i < n → F i k % p ≡ 0)
+    → (s ≤ m) ⊎ ((i : ℕ) × (i < n) × (F i m % p ≢ 0)) → LeadingZeros p n F s m
+zeros-by p n F s m le z nx = record { at-most = le; zeros = z; next = λ h. elim nx [ inl g ↦ absurd (omega arith) | inr i ↦ i ] }
+
+abbrev zerosTest : (p n : ℕ) (F : Vect) (s m : ℕ) → Test (LeadingZeros p n F s m)
+zerosTest p n F s m = from
+    (both (atMost m s) (both (every m (λ k. every n (λ i. equal (F i k % p) 0))) (either (atMost s m) (some n (λ i. nonzero (F i m % p))))))
+    (λ t. zeros-by p n F s m (t .0) (t .1 .0) (t .1 .1))
+
+abbrev pivotOf : Answer → ℕ → ℕ
+pivotOf a i = getD (a .pivots) i 0
+
+-- a prime and a minimal basis, with entries of at most s + 1 coefficients
+record Minimal (p n : ℕ) (F : Vect) (s : ℕ) (d : ℕ → ℤ) (a : Answer) : Type 0 where
+  prime : Prime p
+  basis : WeightBasis p n (offsets n d) F s (rowsOf (a .rows)) (pivotOf a)
+  ends : (i : ℕ) → i < n → (k t : ℕ) → suc s ≤ t → rowsOf (a .rows) i k t ≡ 0
+
+-- rows of V_s, row i of type i, and pivot degrees that add up to s - m
+abbrev minimalTest : (p n : ℕ) (F : Vect) (s : ℕ) (d : ℕ → ℤ) (a : Answer) → Test (Minimal p n F s d a)
+minimalTest p n F s d a = from
+    (both (primeTest p)
+    (both (every n (λ i. leadTest p n (offsets n d) (suc s) (getD (a .rows) i []) i (pivotOf a i)))
+    (both (every n (λ i. every s (λ k. equal (dot n (rowsOf (a .rows) i) F k % p) 0)))
+    (both (atMost (sumTo n (pivotOf a)) s) (zerosTest p n F s (s - sumTo n (pivotOf a)))))))
+    (λ t. record {
+      prime = t .0;
+      basis = criterion (t .0) (t .1 .1 .1 .1) (omega (arith, t .1 .1 .1 .0)) (λ i hi. t .1 .0 i hi .0 .vec) (t .1 .1 .0) (λ i hi. t .1 .0 i hi .1);
+      ends = λ i hi. t .1 .0 i hi .0 .end;
+    })
+
+-- what an answer says beside its basis: reduced, the shifted degrees, the least row and the count
+record Rest (p n : ℕ) (d : ℕ → ℤ) (s : ℕ) (a : Answer) : Type 0 where
+  monic : (i : ℕ) → i < n → rowsOf (a .rows) i i (pivotOf a i) ≡ 1
+  clear : (l : ℕ) → l < n → (k : ℕ) → k < n → (l ≡ k) ⊎ ((t : ℕ) → t < suc s → (t < pivotOf a k) ⊎ (rowsOf (a .rows) l k t ≡ 0))
+  degrees : (i : ℕ) → i < n → shift d i (pivotOf a i) ≡ getD (a .degrees) i (pos 0)
+  named : suc (a .least - 1) ≡ a .least
+  row : a .least - 1 < n
+  first : (l : ℕ) → l < n → weight n (offsets n d) (a .least - 1) (pivotOf a (a .least - 1)) ≤ weight n (offsets n d) l (pivotOf a l)
+  counted : sumTo n (pivotOf a) ≡ a .count
+
+abbrev restTest : (p n : ℕ) (d : ℕ → ℤ) (s : ℕ) (a : Answer) → Test (Rest p n d s a)
+restTest p n d s a = from
+    (both (every n (λ i. equal (rowsOf (a .rows) i i (pivotOf a i)) 1))
+    (both (every n (λ l. every n (λ k. either (equal l k) (every (suc s) (λ t. either (below t (pivotOf a k)) (equal (rowsOf (a .rows) l k t) 0))))))
+    (both (every n (λ i. equalℤ (shift d i (pivotOf a i)) (getD (a .degrees) i (pos 0))))
+    (both (equal (suc (a .least - 1)) (a .least))
+    (both (below (a .least - 1) n)
+    (both (every n (λ l. atMost (weight n (offsets n d) (a .least - 1) (pivotOf a (a .least - 1))) (weight n (offsets n d) l (pivotOf a l))))
+    (equal (sumTo n (pivotOf a)) (a .count))))))))
+    (λ t. record {
+      monic = t .0;
+      clear = t .1 .0;
+      degrees = t .1 .1 .0;
+      named = t .1 .1 .1 .0;
+      row = t .1 .1 .1 .1 .0;
+      first = t .1 .1 .1 .1 .1 .0;
+      counted = t .1 .1 .1 .1 .1 .1;
+    })
+
+module _ {p n : ℕ} {F : Vect} {s : ℕ} {d : ℕ → ℤ} {a : Answer} (mn : Minimal p n F s d a) (rs : Rest p n d s a) where
+  reduced-at : ReducedAt n (rowsOf (a .rows)) (pivotOf a)
+  reduced-at = record {
+    monic = rs .monic;
+    clear = λ l k hl hk ne t g. elim (rs .clear l hl k hk) [
+      | inl q ↦ absurd (ne q)
+      | inr h ↦ elim (decLt t (suc s)) [
+        | yes ht ↦ elim (h t ht) [ inl b ↦ absurd (omega arith) | inr z ↦ z ]
+        | no nt ↦ mn .ends l hl k t (omega arith)
+      ]
+    ];
+  }
+
+  right : Right p n F s d a
+  right = record {
+    prime = mn .prime;
+    basis = basis→minimal (offset n d) (mn .basis);
+    reduced = basis→reduced (record { basis = mn .basis; reduced = reduced-at });
+    pivots = basis→pivot (mn .basis);
+    degrees = λ i hi. rw (← rs .degrees i hi) (basis→degree (offset n d) (mn .basis) i hi);
+    least = (a .least - 1, rs .named, basis→least (offset n d) (mn .basis) (a .least - 1) (rs .row) (rs .first));
+    count = rw (← rs .counted) (basis→count (mn .prime) (mn .basis));
+  }
+
+abbrev answerTest : (p n : ℕ) (F : Vect) (s : ℕ) (d : ℕ → ℤ) (a : Answer) → Test (Right p n F s d a)
+answerTest p n F s d a = from (both (minimalTest p n F s d a) (restTest p n d s a)) (λ t. right (t .0) (t .1))
+
+approximant-by : {p n : ℕ} {F : Vect} {s : ℕ} {d : ℕ → ℤ} {a : Answer} → pos s ≡ sigma n d → (r : Right p n F s d a) → Approximant p n F d s (rowsOf (a .rows)) (r .least .0)
+approximant-by q r = record { order = q; basis = r .basis; reduced = r .reduced; least = r .least .2 }
+
+pair-by : (p k : ℕ) (g r t : List ℕ) (a : Answer) → pos (length g) ≡ sigma 2 (pairType k (length g))
+    → Right p 2 (pairSeries p (poly g)) (length g) (pairType k (length g)) a
+    → getD (getD (a .rows) (a .least - 1) []) 0 [] ≡ r → getD (getD (a .rows) (a .least - 1) []) 1 [] ≡ t
+    → Prime p × Pair p k (length g) (poly g) (poly r) (poly t)
+pair-by p k g r t a q h er et =
+    let is : a .least - 1 ≡ h .least .0 = omega (arith, h .least .1) in (
+      h .prime,
+      record {
+        rows = rowsOf (a .rows);
+        row = h .least .0;
+        approximant = approximant-by q h;
+        first = λ x. rw (← er, is);
+        second = λ x. rw (← et, is);
+      },
+    )
+
+caseTest : (c : Case) → Test (Holds c)
+unfolding Holds
+caseTest (basis j a) = answerTest (j .p) (j .n) (vector (j .series)) (j .s) (typeOf (j .type)) a
+caseTest (approximant j a) = from
+    (both (equalℤ (pos (j .s)) (sigma (j .n) (typeOf (j .type)))) (answerTest (j .p) (j .n) (vector (j .series)) (j .s) (typeOf (j .type)) a))
+    (λ t. (t .1 .least .0, t .1 .least .1, approximant-by (t .0) (t .1)))
+caseTest (pair p k g r t a) = from
+    (both (equalℤ (pos (length g)) (sigma 2 (pairType k (length g))))
+    (both (answerTest p 2 (pairSeries p (poly g)) (length g) (pairType k (length g)) a)
+    (both (equalList (getD (getD (a .rows) (a .least - 1) []) 0 []) r) (equalList (getD (getD (a .rows) (a .least - 1) []) 1 []) t))))
+    (λ u. pair-by p k g r t a (u .0) (u .1 .0) (u .1 .1 .0) (u .1 .1 .1))
+caseTest (inverse p a b) = from (both (primeTest p) (both (below b p) (equal ((a * b) % p) 1)))
+    (λ t. (t .0, record { below = t .1 .0; product = t .1 .1 }))
+
+tableTest : (cs : List Case) → Test (AllHold cs)
+unfolding AllHold
+tableTest [] = passed tt
+tableTest (c ∷ cs) = both (caseTest c) (tableTest cs)
+
+-- every starred case holds
+pub starred-hold : AllHold starred
+unfolding tableTest caseTest sumTo conv dot weight less base offsets sumℤ sigma pairSeries pairType
+starred-hold = tableTest starred .shows tt
+
+-- a buffer lent with zeros holds no basis, whatever the job
+pub zero-rows-no-basis : {p n : ℕ} {F : Vect} {s : ℕ} {d : ℕ → ℤ} → 0 < n → ¬ MinimalBasis p n F s d (λ i. zeroVector)
+zero-rows-no-basis hn mb = let w = mb .nonzero 0 hn in w .3 refl
+
+-- the identity rows are no basis of C1: (1, 0) is no relation
+abbrev identityRows : ℕ → Vect
+identityRows = rowsOf (((1 ∷ []) ∷ (0 ∷ []) ∷ []) ∷ ((0 ∷ []) ∷ (1 ∷ []) ∷ []) ∷ [])
+
+pub identity-no-basis : ¬ MinimalBasis 7 2 (vector (c1 .series)) 3 (typeOf (c1 .type)) identityRows
+unfolding sumTo conv dot
+identity-no-basis mb =
+    let q : _≡_ {A = ℕ} 6 0 = mb .member 0 (omega arith) .vanishes 0 (omega arith) in
+    omega arith
+
+-- in C1 the row (0 1, 0 1 6) is minimal too, but not reduced
+abbrev unreduced : Answer
+unreduced = record {
+  rows = ((0 ∷ 1 ∷ []) ∷ (0 ∷ 1 ∷ 6 ∷ []) ∷ []) ∷ ((6 ∷ []) ∷ (6 ∷ 1 ∷ 1 ∷ []) ∷ []) ∷ [];
+  pivots = c1-answer .pivots;
+  degrees = c1-answer .degrees;
+  least = c1-answer .least;
+  count = c1-answer .count;
+}
+
+unreduced-minimal : Minimal 7 2 (vector (c1 .series)) 3 (typeOf (c1 .type)) unreduced
+unfolding sumTo conv dot weight less base offsets
+unreduced-minimal = minimalTest 7 2 (vector (c1 .series)) 3 (typeOf (c1 .type)) unreduced .shows tt
+
+pub minimal-not-reduced : MinimalBasis 7 2 (vector (c1 .series)) 3 (typeOf (c1 .type)) (rowsOf (unreduced .rows)) × (¬ Reduced 2 (rowsOf (unreduced .rows)))
+minimal-not-reduced = (
+  basis→minimal (offset 2 (typeOf (c1 .type))) (unreduced-minimal .basis),
+  λ rd.
+      let q : _≡_ {A = ℕ} 6 0 = rd .below 0 1 2 (omega arith) (omega arith) (omega arith) (basis→pivot (unreduced-minimal .basis) 1 (omega arith)) 2 (omega arith) in
+      omega arith,
+)

@@ -1,0 +1,19 @@
+-- What a reader has to believe about relations: document 01's definitions, one notion a file.
+pub mod Sum
+pub mod Product
+pub mod Vector
+pub mod Relation
+pub mod Degree
+pub mod Integer
+pub mod ShiftedDegree
+pub mod TypeOf
+pub mod MinimalBasis
+pub mod Pivot
+pub mod Reduced
+pub mod LeadingZeros
+pub mod Shrink
+pub mod Sigma
+pub mod Approximant
+pub mod Combination
+pub mod Pair
+pub mod Starred
