@@ -1,0 +1,62 @@
+-- The order σ, the lengths and the coefficients, in this order.
+use mathlib.Core.Logic.{inl, inr}
+use native.Mathlib.Omega.{arith}
+use Rattle.field.proofs.Truth.{fails}
+use Rattle.engine.proofs.Admitted.{series-small, basis-small}
+use Rattle.engine.proofs.Tests.{here, later, no-more, no-either, exact}
+use borrow.Author.Needs.{needs}
+use Rattle.engine.proofs.test_approximant_order.Statement.{statement}
+use Rattle.engine.proofs.test_approximant_order.Tie as tie
+
+order-of-requires : tie.Need-order-of-requires
+order-of-requires c κs = search needs
+
+returns : tie.Need-returns
+returns c = rw (← (c .before .order-of .ensures .0)) (here _ _ (omega arith))
+
+mul-if2 : tie.Need-mul-if2
+mul-if2 c = omega (arith, series-small (c .before .before .before .before .args .n) (c .before .order-of .result) (omega arith) (omega arith))
+
+returns-2 : tie.Need-returns-2
+returns-2 c = rw (← (c .before .before .order-of .ensures .0)) (later _ _ _ (omega arith) (here _ _ (inl (c .if2 .taken))))
+
+add-if3 : tie.Need-add-if3
+add-if3 c = search needs
+
+mul-if3 : tie.Need-mul-if3
+mul-if3 c = search needs
+
+mul-if3-2 : tie.Need-mul-if3-2
+mul-if3-2 c = omega (arith, basis-small (c .before .before .before .before .before .args .n) (c .before .before .order-of .result) (omega arith) (omega arith))
+
+returns-3 : tie.Need-returns-3
+returns-3 c = rw (← (c .before .before .before .order-of .ensures .0)) (later _ _ _ (omega arith) (here _ _ (inr (c .if3 .taken))))
+
+any-from-requires : tie.Need-any-from-requires
+any-from-requires c κs = search needs
+
+returns-4 : tie.Need-returns-4
+returns-4 c =
+    rw (← (c .before .before .before .before .before .order-of .ensures .0)) (later _ _ _ (omega arith) (later _ _ _ (no-either (exact (c .before .before .before .if2 .left)) (exact (c .before .before .if3 .left)))
+    (here _ _ (c .before .any-from .ensures .0 (c .if4 .taken)))))
+
+returns-5 : tie.Need-returns-5
+returns-5 c =
+    rw (← (c .before .before .before .before .before .order-of .ensures .0)) (later _ _ _ (omega arith) (later _ _ _ (no-either (exact (c .before .before .before .if2 .left)) (exact (c .before .before .if3 .left)))
+    (later _ _ _ (fails _ (c .before .any-from .ensures) (c .if4 .left)) no-more)))
+
+pub test-approximant-order-spec : {M : Type 1} → statement M
+test-approximant-order-spec =
+    tie.close
+    (tie.spec
+    order-of-requires
+    returns
+    mul-if2
+    returns-2
+    add-if3
+    mul-if3
+    mul-if3-2
+    returns-3
+    any-from-requires
+    returns-4
+    returns-5)

@@ -1,0 +1,382 @@
+// The engine's calls: minimal basis, approximant, Padé pair and row view, on lent words. Each tests every argument and has no premise.
+ghost use mathlib.Core.Path.{_≡_};
+ghost use mathlib.Core.Bool.{true};
+ghost use mathlib.Core.Logic.{_↔_};
+ghost use Prim.Native.Nat.{ℕ, _+_, _*_, _-_, _<_, _≤_};
+ghost use lib.ListN.{length, getD, take, drop};
+ghost use Rattle.field.specs.Calls.{Tests};
+ghost use Rattle.relation.specs.Sum.{sumTo};
+ghost use Rattle.relation.specs.Pair.{pairSeries};
+ghost use Rattle.row.specs.View.{poly, vector, degreeAt};
+ghost use Rattle.step.specs.Shift.{rowWeight, TypeWords, TopsWithin};
+ghost use Rattle.engine.specs.Words.{orderOf, basisLength, Some};
+ghost use Rattle.engine.specs.Orders.{basisOrder, approximantOrder, pairOrder, startOrder, after};
+ghost use Rattle.engine.specs.Sizes.{Sizes, PairSizes};
+ghost use Rattle.engine.specs.Answers.{basisSays, pairSays};
+ghost use Rattle.engine.specs.Basis.{BasisFound, BasisAnswered, BasisOutcome};
+ghost use Rattle.engine.specs.Approximant.{ApproximantOutcome};
+ghost use Rattle.engine.specs.Pair.{PairWritten, PairOutcome};
+ghost use Rattle.engine.specs.RowView.{ViewFits, RowViewed};
+use field::Field;
+use field::Tested;
+use row::Degree;
+use step::Found;
+
+pub enum BasisAnswer {
+    Found { least: u32, count: u32 },
+    Refused(u32),
+}
+
+pub enum PairAnswer {
+    Written,
+    Refused(u32),
+}
+
+// What the work on a basis finds: the least row, counted from 0, and how many orders made V smaller.
+struct Solved {
+    least: usize,
+    count: usize,
+}
+
+// Whether some word is at least the bound.
+pub fn any_from(words: &[u32], bound: u32) -> bool
+    ensures { λ r. ⌜ (r ≡ true) ↔ Some (λ x. bound ≤ x) (now (words .entry)) ⌝ }
+{
+    let mut i = 0;
+    while i < words.len() {
+        if words[i] >= bound {
+            return true;
+        }
+        i += 1;
+    }
+    false
+}
+
+fn test_start(p: u32, n: u32) -> Tested
+    ensures { λ r. ⌜ Tests (startOrder p n) r ⌝ }
+{
+    if !Field::admits(p) {
+        return Tested::Refused(1);
+    }
+    if n < 1 {
+        return Tested::Refused(2);
+    }
+    if n > 8 {
+        return Tested::Refused(2);
+    }
+    Tested::Passed
+}
+
+// Lengths are multiplied only once n and s are known to be small.
+fn test_basis_rest(p: u32, n: u32, s: u32, d: &[u32], series: &[u32], basis: usize) -> Tested
+    requires { ⌜ n ≤ 8 ⌝ }
+    ensures { λ r. ⌜ Tests (after 2 (basisOrder p n s (now (d .entry)) (now (series .entry)) basis)) r ⌝ }
+{
+    if s > 255 {
+        return Tested::Refused(3);
+    }
+    let rows = n as usize;
+    let order = s as usize;
+    if d.len() != rows {
+        return Tested::Refused(4);
+    }
+    if series.len() != rows * order {
+        return Tested::Refused(4);
+    }
+    if basis != rows * (rows * (order + 1)) {
+        return Tested::Refused(4);
+    }
+    if any_from(d, 256) {
+        return Tested::Refused(5);
+    }
+    if any_from(series, p) {
+        return Tested::Refused(6);
+    }
+    Tested::Passed
+}
+
+fn test_basis(p: u32, n: u32, s: u32, d: &[u32], series: &[u32], basis: usize) -> Tested
+    ensures { λ r. ⌜ Tests (basisOrder p n s (now (d .entry)) (now (series .entry)) basis) r ⌝ }
+{
+    match test_start(p, n) {
+        Tested::Passed => test_basis_rest(p, n, s, d, series, basis),
+        Tested::Refused(k) => Tested::Refused(k),
+    }
+}
+
+// σ, for a type that passed its tests.
+fn order_of(n: usize, d: &[u32]) -> usize
+    requires { ⌜ (1 ≤ n) × (n ≤ 8) × (length (now d) ≡ n) × ((i : ℕ) → getD (now d) i 0 ≤ 255) ⌝ }
+    ensures { λ r. ⌜ (r ≡ orderOf n (now (d .entry))) × (r ≤ 2047) ⌝ }
+{
+    let mut sum = 0;
+    let mut i = 0;
+    while i < n {
+        sum += d[i] as usize + 1;
+        i += 1;
+    }
+    sum - 1
+}
+
+fn test_approximant_order(p: u32, n: usize, d: &[u32], series: &[u32], basis: usize) -> Tested
+    requires { ⌜ (1 ≤ n) × (n ≤ 8) × (length (now d) ≡ n) × ((i : ℕ) → getD (now d) i 0 ≤ 255) ⌝ }
+    ensures { λ r. ⌜ Tests (after 4 (approximantOrder p n (now (d .entry)) (now (series .entry)) basis)) r ⌝ }
+{
+    let order = order_of(n, d);
+    if order > 255 {
+        return Tested::Refused(3);
+    }
+    if series.len() != n * order {
+        return Tested::Refused(4);
+    }
+    if basis != n * (n * (order + 1)) {
+        return Tested::Refused(4);
+    }
+    if any_from(series, p) {
+        return Tested::Refused(6);
+    }
+    Tested::Passed
+}
+
+fn test_approximant_type(p: u32, n: u32, d: &[u32], series: &[u32], basis: usize) -> Tested
+    requires { ⌜ (1 ≤ n) × (n ≤ 8) ⌝ }
+    ensures { λ r. ⌜ Tests (after 2 (approximantOrder p n (now (d .entry)) (now (series .entry)) basis)) r ⌝ }
+{
+    let rows = n as usize;
+    if d.len() != rows {
+        return Tested::Refused(4);
+    }
+    if any_from(d, 256) {
+        return Tested::Refused(5);
+    }
+    test_approximant_order(p, rows, d, series, basis)
+}
+
+fn test_approximant(p: u32, n: u32, d: &[u32], series: &[u32], basis: usize) -> Tested
+    ensures { λ r. ⌜ Tests (approximantOrder p n (now (d .entry)) (now (series .entry)) basis) r ⌝ }
+{
+    match test_start(p, n) {
+        Tested::Passed => test_approximant_type(p, n, d, series, basis),
+        Tested::Refused(k) => Tested::Refused(k),
+    }
+}
+
+fn test_pair_rest(p: u32, k: u32, g: &[u32], r: usize, t: usize) -> Tested
+    ensures { λ a. ⌜ Tests (after 1 (pairOrder p k (now (g .entry)) r t)) a ⌝ }
+{
+    let order = g.len();
+    let first = k as usize;
+    if order > 255 {
+        return Tested::Refused(3);
+    }
+    if first < 1 {
+        return Tested::Refused(7);
+    }
+    if order < first {
+        return Tested::Refused(7);
+    }
+    if r != first {
+        return Tested::Refused(4);
+    }
+    if t != order - first + 1 {
+        return Tested::Refused(4);
+    }
+    if any_from(g, p) {
+        return Tested::Refused(6);
+    }
+    Tested::Passed
+}
+
+fn test_pair(p: u32, k: u32, g: &[u32], r: usize, t: usize) -> Tested
+    ensures { λ a. ⌜ Tests (pairOrder p k (now (g .entry)) r t) a ⌝ }
+{
+    if Field::admits(p) {
+        test_pair_rest(p, k, g, r, t)
+    } else {
+        Tested::Refused(1)
+    }
+}
+
+fn view_fits(words: usize, n: u32, s: u32, i: u32) -> bool
+    ensures { λ r. ⌜ (r ≡ true) ↔ ViewFits words n s i ⌝ }
+{
+    if n < 1 {
+        return false;
+    }
+    if n > 8 {
+        return false;
+    }
+    if s > 255 {
+        return false;
+    }
+    if i < 1 {
+        return false;
+    }
+    if i > n {
+        return false;
+    }
+    let rows = n as usize;
+    let order = s as usize;
+    if words != rows * (rows * (order + 1)) {
+        return false;
+    }
+    true
+}
+
+// Row i, counted from 1, as a part of the lent basis; the empty part at its start where the arguments do not fit.
+pub fn row_view(basis: &[u32], n: u32, s: u32, i: u32) -> &[u32]
+    ensures { λ r. ⌜ RowViewed (now (basis .entry)) n s i (now r) ⌝ }
+{
+    if view_fits(basis.len(), n, s, i) {
+        let width = s as usize + 1;
+        let at = i as usize - 1;
+        row::part_at(basis, at, n as usize * width)
+    } else {
+        &basis[..0]
+    }
+}
+
+fn pivot_sum(tops: [Degree; 8], n: usize) -> usize
+    requires { ⌜ (n ≤ 8) × TopsWithin n 255 tops ⌝ }
+    ensures { λ r. ⌜ r ≡ sumTo n (degreeAt tops) ⌝ }
+{
+    let mut sum = 0;
+    let mut l = 0;
+    while l < n {
+        let top = tops[l];
+        sum += top.0;
+        l += 1;
+    }
+    sum
+}
+
+// The least of all n rows.
+fn least_of(tops: [Degree; 8], d: &[u32], n: usize) -> usize
+    requires { ⌜ (1 ≤ n) × (n ≤ 8) × TypeWords n (now d) × TopsWithin n 255 tops ⌝ }
+    ensures { λ r. ⌜ (r < n) × ((l : ℕ) → l < n → rowWeight n (now (d .entry)) tops r ≤ rowWeight n (now (d .entry)) tops l) ⌝ }
+{
+    match step::least_row([1u32; 8], tops, d, n) {
+        Found::Row(i) => i,
+        Found::Nothing => 0,
+    }
+}
+
+// The basis of order s, with its least row and its count: what basis, approximant and pair share.
+fn solve(f: Field, n: usize, s: usize, d: &[u32], series: &[u32], out: &mut [u32]) -> Solved
+    requires { ⌜ Sizes (f .modulus) n s (now d) (now series) (length (now out)) ⌝ }
+    ensures { λ r. ⌜ BasisFound (f .modulus) n s (now (d .entry)) (now (series .entry)) (now (out .exit)) (r .least) (r .count) ⌝ }
+{
+    let tops = step::reduced_basis(f, n, s, d, series, out);
+    Solved {
+        least: least_of(tops, d, n),
+        count: pivot_sum(tops, n),
+    }
+}
+
+fn answered(f: Field, n: usize, s: usize, d: &[u32], series: &[u32], out: &mut [u32]) -> BasisAnswer
+    requires { ⌜ Sizes (f .modulus) n s (now d) (now series) (length (now out)) ⌝ }
+    ensures { λ r. ⌜ BasisAnswered (f .modulus) n s (now (d .entry)) (now (series .entry)) (now (out .exit)) (basisSays r) ⌝ }
+{
+    let w = solve(f, n, s, d, series, out);
+    BasisAnswer::Found {
+        least: (w.least + 1) as u32,
+        count: w.count as u32,
+    }
+}
+
+pub fn basis(p: u32, n: u32, s: u32, d: &[u32], series: &[u32], out: &mut [u32]) -> BasisAnswer
+    ensures { λ r. ⌜ BasisOutcome p n s (now (d .entry)) (now (series .entry)) (now (out .entry)) (basisSays r) (now (out .exit)) ⌝ }
+{
+    match test_basis(p, n, s, d, series, out.len()) {
+        Tested::Passed => answered(Field { modulus: p }, n as usize, s as usize, d, series, out),
+        Tested::Refused(k) => BasisAnswer::Refused(k),
+    }
+}
+
+pub fn approximant(p: u32, n: u32, d: &[u32], series: &[u32], out: &mut [u32]) -> BasisAnswer
+    ensures { λ r. ⌜ ApproximantOutcome p n (now (d .entry)) (now (series .entry)) (now (out .entry)) (basisSays r) (now (out .exit)) ⌝ }
+{
+    match test_approximant(p, n, d, series, out.len()) {
+        Tested::Passed => {
+            let rows = n as usize;
+            answered(
+                Field { modulus: p },
+                rows,
+                order_of(rows, d),
+                d,
+                series,
+                out,
+            )
+        }
+        Tested::Refused(k) => BasisAnswer::Refused(k),
+    }
+}
+
+// The series -1 and g, end to end.
+fn pair_series(f: Field, g: &[u32], series: &mut [u32])
+    requires { ⌜ (1 < f .modulus) × (1 ≤ length (now g)) × (length (now g) ≤ 255) × (length (now series) ≡ 2 * length (now g)) ⌝ }
+    ensures { λ _. ⌜ (length (now (series .exit)) ≡ length (now (series .entry))) × (vector (length (now (g .entry))) (now (series .exit)) ≡ pairSeries (f .modulus) (poly (now (g .entry)))) ⌝ }
+{
+    let order = g.len();
+    let end = order + order;
+    row::fill_zero(series);
+    series[0] = f.modulus - 1;
+    row::copy(g, &mut series[order..end]);
+}
+
+// The words from start on, as many as are lent.
+fn copy_from(words: &[u32], start: usize, into: &mut [u32])
+    requires { ⌜ start + length (now into) ≤ length (now words) ⌝ }
+    ensures { λ _. ⌜ now (into .exit) ≡ take (length (now (into .entry))) (drop start (now (words .entry))) ⌝ }
+{
+    let end = start + into.len();
+    row::copy(&words[start..end], into);
+}
+
+// The pair, worked out in lent scratch.
+fn pair_work(
+    f: Field,
+    k: usize,
+    g: &[u32],
+    series: &mut [u32],
+    basis: &mut [u32],
+    r: &mut [u32],
+    t: &mut [u32],
+)
+    requires { ⌜ PairSizes (f .modulus) k (now g) (length (now r)) (length (now t)) ⌝ }
+    requires { ⌜ (length (now series) ≡ 2 * length (now g)) × (length (now basis) ≡ basisLength 2 (length (now g))) ⌝ }
+    ensures { λ _. ⌜ PairWritten (f .modulus) k (now (g .entry)) (now (r .exit)) (now (t .exit)) ⌝ }
+{
+    let order = g.len();
+    let width = order + 1;
+    pair_series(f, g, series);
+    let d = [(k - 1) as u32, (order - k) as u32];
+    let w = solve(f, 2, order, &d, series, basis);
+    let start = w.least * (2 * width);
+    copy_from(basis, start, r);
+    copy_from(basis, start + width, t);
+}
+
+fn write_pair(f: Field, k: usize, g: &[u32], r: &mut [u32], t: &mut [u32])
+    requires { ⌜ PairSizes (f .modulus) k (now g) (length (now r)) (length (now t)) ⌝ }
+    ensures { λ _. ⌜ PairWritten (f .modulus) k (now (g .entry)) (now (r .exit)) (now (t .exit)) ⌝ }
+{
+    let order = g.len();
+    let mut series = [0u32; 510];
+    let mut basis = [0u32; 1024];
+    let words = 2 * order;
+    let size = 2 * (2 * (order + 1));
+    pair_work(f, k, g, &mut series[..words], &mut basis[..size], r, t);
+}
+
+pub fn pair(p: u32, k: u32, g: &[u32], r: &mut [u32], t: &mut [u32]) -> PairAnswer
+    ensures { λ a. ⌜ PairOutcome p k (now (g .entry)) (now (r .entry)) (now (t .entry)) (pairSays a) (now (r .exit)) (now (t .exit)) ⌝ }
+{
+    match test_pair(p, k, g, r.len(), t.len()) {
+        Tested::Passed => {
+            write_pair(Field { modulus: p }, k as usize, g, r, t);
+            PairAnswer::Written
+        }
+        Tested::Refused(j) => PairAnswer::Refused(j),
+    }
+}

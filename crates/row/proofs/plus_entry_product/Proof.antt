@@ -1,0 +1,80 @@
+-- `plus_entry_product` meets its contract: after t turns the total is the sum with the first t terms of the product's coefficient.
+use mathlib.Core.Path.{_≡_, sym, _∙_}
+use Prim.Native.Nat.{_+_, _*_, _-_, _%_, _≤_}
+use native.Mathlib.Nat.{add-zero, mod-eq-of-lt}
+use native.Mathlib.Omega.{arith}
+use Rattle.relation.specs.Sum.{sumTo}
+use Rattle.relation.proofs.Product.{conv-short}
+use Rattle.row.specs.View.{poly}
+use Rattle.row.proofs.Turn.{sum-turn}
+use Rattle.row.proofs.plus_entry_product.Statement.{statement}
+use Rattle.row.proofs.plus_entry_product.Tie as tie
+
+abbrev Inv-loop : tie.InvT-loop
+Inv-loop f sum entry series at end total₀ t₀ total t =
+    (t ≤ end) × (total ≡ (sum + sumTo t (λ k. poly entry k * poly series (at - k))) % f .modulus)
+
+abbrev μ-loop : tie.MeasureT-loop
+μ-loop f sum entry series at end total₀ t₀ total t = end - t
+
+add-end : tie.Need-add-end Inv-loop μ-loop
+add-end c = omega arith
+
+loop-holds : tie.Need-loop-holds Inv-loop μ-loop
+unfolding sumTo
+loop-holds c = (omega arith, sym (rw add-zero (mod-eq-of-lt (omega arith))))
+
+mul-plus-product : tie.Need-mul-plus-product Inv-loop μ-loop
+mul-plus-product c = omega arith
+
+shared-slice-read-plus-product : tie.Need-shared-slice-read-plus-product Inv-loop μ-loop
+shared-slice-read-plus-product c = omega arith
+
+sub-plus-product : tie.Need-sub-plus-product Inv-loop μ-loop
+sub-plus-product c = omega arith
+
+mul-plus-product-2 : tie.Need-mul-plus-product-2 Inv-loop μ-loop
+mul-plus-product-2 c = omega arith
+
+shared-slice-read-plus-product-2 : tie.Need-shared-slice-read-plus-product-2 Inv-loop μ-loop
+shared-slice-read-plus-product-2 c = omega arith
+
+plus-product-requires : tie.Need-plus-product-requires Inv-loop μ-loop
+plus-product-requires c κs = omega arith
+
+add-t : tie.Need-add-t Inv-loop μ-loop
+add-t c = omega arith
+
+loop-less : tie.Need-loop-less Inv-loop μ-loop
+loop-less c = omega arith
+
+loop-again : tie.Need-loop-again Inv-loop μ-loop
+unfolding poly
+loop-again c =
+    let l = c .before .before .before .before .loop in
+    (omega arith, sum-turn _ _ (l .t) _ _ _ (l .inv .1) (c .plus-product .ensures))
+
+returns : tie.Need-returns Inv-loop μ-loop
+returns c =
+    let l = c .before .loop in
+    let start = c .before .before .before .before .before in
+    l .inv .1 ∙ rw (conv-short (poly (start .args .entry .now)) (poly (start .args .series .now)) (l .t) (start .args .at) (omega arith) (λ k g. start .pre .4 k (omega arith)))
+
+pub plus-entry-product-spec : {M : Type 1} → statement M
+plus-entry-product-spec =
+    tie.close
+    (tie.spec
+    Inv-loop
+    μ-loop
+    add-end
+    loop-holds
+    mul-plus-product
+    shared-slice-read-plus-product
+    sub-plus-product
+    mul-plus-product-2
+    shared-slice-read-plus-product-2
+    plus-product-requires
+    add-t
+    loop-less
+    loop-again
+    returns)

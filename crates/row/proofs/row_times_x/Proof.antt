@@ -1,0 +1,108 @@
+-- `row_times_x` meets its contract: the first k entries are those of X times the row.
+use mathlib.Core.Path.{_≡_, ap, sym, _∙_}
+use Prim.Native.Nat.{ℕ, _+_, _*_, _-_, _≤_}
+use native.Mathlib.Omega.{arith}
+use lib.ListN.{length}
+use Rattle.row.specs.View.{poly, vector}
+use Rattle.row.proofs.Part.{part-fits, part-length, lent-length, row-ext, vector-out}
+use Rattle.row.proofs.TimesX.{times-x-entry, times-x-zero}
+use Rattle.row.proofs.Written.{PartsDone, parts-none, parts-turn}
+use Rattle.relation.proofs.Vector.{timesX}
+use Rattle.row.proofs.row_times_x.Statement.{statement}
+use Rattle.row.proofs.row_times_x.Tie as tie
+
+abbrev Inv-loop : tie.InvT-loop
+Inv-loop row into₀ n width k₀ into k = (k ≤ n) × PartsDone width (λ l ys. (t : ℕ) → poly ys t ≡ timesX (vector width row) l t) into₀ into k
+
+abbrev μ-loop : tie.MeasureT-loop
+μ-loop row into₀ n width k₀ into k = n - k
+
+loop-holds : tie.Need-loop-holds Inv-loop μ-loop
+loop-holds c = (omega arith, parts-none _ _ _)
+
+mul-start : tie.Need-mul-start Inv-loop μ-loop
+mul-start c = omega (arith, part-fits (c .before .before .before .before .args .n) (c .before .before .before .before .args .width) (c .before .loop .k) (omega arith))
+
+add-end : tie.Need-add-end Inv-loop μ-loop
+add-end c = omega (arith, part-fits (c .before .before .before .before .args .n) (c .before .before .before .before .args .width) (c .before .loop .k) (omega arith))
+
+part-at-requires : tie.Need-part-at-requires Inv-loop μ-loop
+part-at-requires c κs = omega (arith, part-fits (c .before .before .before .before .args .n) (c .before .before .before .before .args .width) (c .before .loop .k) (omega arith))
+
+mul-times-x : tie.Need-mul-times-x Inv-loop μ-loop
+mul-times-x c = omega (arith, part-fits (c .before .before .before .before .before .args .n) (c .before .before .before .before .before .args .width) (c .before .before .loop .k) (omega arith))
+
+sub-times-x : tie.Need-sub-times-x Inv-loop μ-loop
+sub-times-x c = omega arith
+
+part-times-x-start : tie.Need-part-times-x-start Inv-loop μ-loop
+part-times-x-start c = omega arith
+
+part-times-x-end : tie.Need-part-times-x-end Inv-loop μ-loop
+part-times-x-end c = omega (arith, part-fits (c .before .before .before .before .before .args .n) (c .before .before .before .before .before .args .width) (c .before .before .loop .k) (omega arith))
+
+times-x-requires : tie.Need-times-x-requires Inv-loop μ-loop
+unfolding vector
+times-x-requires c κs =
+    let start = c .before .before .before .before .before .before in
+    let args = start .args in
+    let l = c .before .before .before .loop in
+    let fits : l .k * args .width + args .width ≤ args .n * args .width = part-fits (args .n) (args .width) (l .k) (omega arith) in
+    let e : length (c .before .part-at .result .now) ≡ args .width = ap length (c .before .part-at .ensures) ∙ part-length (args .width) (l .k) (args .row .now) (omega arith) in (
+      omega arith,
+      lent-length (args .width) (l .k) (l .into) (omega arith) ∙ sym e,
+      rw (e, c .before .part-at .ensures) (start .pre .1 (l .k) (omega arith)),
+    )
+
+add-k : tie.Need-add-k Inv-loop μ-loop
+add-k c = omega arith
+
+loop-less : tie.Need-loop-less Inv-loop μ-loop
+loop-less c = omega arith
+
+loop-again : tie.Need-loop-again Inv-loop μ-loop
+unfolding vector
+loop-again c =
+    let l = c .before .before .before .before .before .before .loop in
+    let args = c .before .before .before .before .before .before .before .before .before .args in
+    let fits : l .k * args .width + args .width ≤ args .n * args .width = part-fits (args .n) (args .width) (l .k) (omega arith) in
+    let moved = c .before .before .times-x in (
+      omega arith,
+      parts-turn (args .width) _ _ (l .into) (moved .last .1 .0) (l .k) (omega arith)
+          (moved .ensures .0 ∙ lent-length (args .width) (l .k) (l .into) (omega arith))
+          (λ t. moved .ensures .1 t ∙ rw (c .before .before .before .before .part-at .ensures) (times-x-entry (vector (args .width) (args .row .now)) (l .k) t))
+          (l .inv .1),
+    )
+
+same-length : tie.Need-same-length Inv-loop μ-loop
+same-length c = omega arith
+
+returns : tie.Need-returns Inv-loop μ-loop
+returns c =
+    let l = c .before .loop in
+    let args = c .before .before .before .before .args in (
+      l .inv .1 .same,
+      row-ext (args .n) (args .width) (l .into) _ (omega arith) (λ k h. l .inv .1 .done k (omega arith))
+          (λ k t h. times-x-zero (vector (args .width) (args .row .now)) k (λ t. vector-out (args .n) (args .width) (args .row .now) (omega arith) k t h) t),
+    )
+
+pub row-times-x-spec : {M : Type 1} → statement M
+row-times-x-spec =
+    tie.close
+    (tie.spec
+    Inv-loop
+    μ-loop
+    loop-holds
+    mul-start
+    add-end
+    part-at-requires
+    mul-times-x
+    sub-times-x
+    part-times-x-start
+    part-times-x-end
+    times-x-requires
+    add-k
+    loop-less
+    loop-again
+    same-length
+    returns)

@@ -1,0 +1,174 @@
+// Rows of polynomials as words: n entries of equal width, low coefficient first. Loops end at the pivot degrees.
+ghost use mathlib.Core.Path.{_≡_};
+ghost use Prim.Native.Nat.{ℕ, _+_, _*_, _-_, _%_, _<_, _≤_};
+ghost use lib.ListN.{length, getD};
+ghost use Rattle.relation.specs.Product.{conv, dot};
+ghost use Rattle.relation.proofs.Vector.{addMultiple, timesX, unit};
+ghost use Rattle.row.specs.View.{part, poly, vector, row, degreeAt};
+ghost use Rattle.row.specs.Shape.{EndsAt, RowEndsAt, Below};
+use field::Field;
+
+// deg of document 000: the plain degree of an entry. It is never compared for the order of rows.
+pub struct Degree(pub usize);
+
+// Part k of words that are cut into parts of w.
+pub fn part_at(words: &[u32], k: usize, w: usize) -> &[u32]
+    requires { ⌜ k * w + w ≤ length (now words) ⌝ }
+    ensures { λ r. ⌜ now r ≡ part w k (now (words .entry)) ⌝ }
+{
+    let start = k * w;
+    let end = start + w;
+    &words[start..end]
+}
+
+// The sum, plus the coefficient of X^at in entry * series. The entry ends at its degree.
+pub fn plus_entry_product(
+    f: Field,
+    sum: u32,
+    entry: &[u32],
+    series: &[u32],
+    top: Degree,
+    at: usize,
+) -> u32
+    requires { ⌜ (sum < f .modulus) × (top .0 < length (now entry)) × (top .0 ≤ at) × (at < length (now series)) × EndsAt (poly (now entry)) (top .0) ⌝ }
+    ensures { λ r. ⌜ r ≡ (sum + conv (poly (now (entry .entry))) (poly (now (series .entry))) at) % f .modulus ⌝ }
+{
+    let end = top.0 + 1;
+    let mut total = sum;
+    let mut t = 0;
+    while t < end {
+        total = f.plus_product(total, entry[t], series[at - t]);
+        t += 1;
+    }
+    total
+}
+
+// The coefficient of X^at in the sum of the products of a row's entries with the series.
+pub fn row_product(
+    f: Field,
+    row: &[u32],
+    series: &[u32],
+    tops: [Degree; 8],
+    n: usize,
+    s: usize,
+    at: usize,
+) -> u32
+    requires { ⌜ (1 < f .modulus) × (n ≤ 8) × (at < s) × (s ≤ 255) × (length (now row) ≡ n * (s + 1)) × (length (now series) ≡ n * s) ⌝ }
+    requires { ⌜ ((k : ℕ) → k < n → degreeAt tops k ≤ at) ⌝ }
+    requires { ⌜ RowEndsAt n (vector (s + 1) (now row)) (degreeAt tops) ⌝ }
+    ensures { λ r. ⌜ r ≡ dot n (vector (s + 1) (now (row .entry))) (vector s (now (series .entry))) at % f .modulus ⌝ }
+{
+    let width = s + 1;
+    let mut sum = 0;
+    let mut k = 0;
+    while k < n {
+        let top = tops[k];
+        sum = plus_entry_product(
+            f,
+            sum,
+            part_at(row, k, width),
+            part_at(series, k, s),
+            top,
+            at,
+        );
+        k += 1;
+    }
+    sum
+}
+
+// c times an entry is added to another; it ends at its degree.
+pub fn add_multiple(f: Field, entry: &mut [u32], from: &[u32], c: u32, top: Degree)
+    requires { ⌜ (0 < f .modulus) × (top .0 < length (now entry)) × (top .0 < length (now from)) × ((t : ℕ) → poly (now entry) t < f .modulus) × EndsAt (poly (now from)) (top .0) ⌝ }
+    ensures { λ _. ⌜ (length (now (entry .exit)) ≡ length (now (entry .entry))) × ((t : ℕ) → poly (now (entry .exit)) t ≡ (poly (now (entry .entry)) t + c * poly (now (from .entry)) t) % f .modulus) ⌝ }
+{
+    let end = top.0 + 1;
+    let mut t = 0;
+    while t < end {
+        entry[t] = f.plus_product(entry[t], c, from[t]);
+        t += 1;
+    }
+}
+
+// c times a row is added to another.
+pub fn add_row_multiple(
+    f: Field,
+    row: &mut [u32],
+    from: &[u32],
+    c: u32,
+    tops: [Degree; 8],
+    n: usize,
+    width: usize,
+)
+    requires { ⌜ (0 < f .modulus) × (n ≤ 8) × (length (now row) ≡ n * width) × (length (now from) ≡ n * width) ⌝ }
+    requires { ⌜ ((k : ℕ) → k < n → degreeAt tops k < width) ⌝ }
+    requires { ⌜ Below (f .modulus) (vector width (now row)) ⌝ }
+    requires { ⌜ RowEndsAt n (vector width (now from)) (degreeAt tops) ⌝ }
+    ensures { λ _. ⌜ (length (now (row .exit)) ≡ length (now (row .entry))) × (vector width (now (row .exit)) ≡ addMultiple (f .modulus) c (vector width (now (from .entry))) (vector width (now (row .entry)))) ⌝ }
+{
+    let mut k = 0;
+    while k < n {
+        let start = k * width;
+        let end = start + width;
+        let top = tops[k];
+        add_multiple(f, &mut row[start..end], part_at(from, k, width), c, top);
+        k += 1;
+    }
+}
+
+pub fn copy(from: &[u32], into: &mut [u32])
+    requires { ⌜ length (now from) ≡ length (now into) ⌝ }
+    ensures { λ _. ⌜ now (into .exit) ≡ now (from .entry) ⌝ }
+{
+    let mut t = 0;
+    while t < from.len() {
+        into[t] = from[t];
+        t += 1;
+    }
+}
+
+// X times an entry whose last place is free.
+pub fn times_x(entry: &[u32], into: &mut [u32])
+    requires { ⌜ (0 < length (now entry)) × (length (now into) ≡ length (now entry)) × (poly (now entry) (length (now entry) - 1) ≡ 0) ⌝ }
+    ensures { λ _. ⌜ (length (now (into .exit)) ≡ length (now (into .entry))) × ((t : ℕ) → poly (now (into .exit)) t ≡ timesX (λ _. poly (now (entry .entry))) 0 t) ⌝ }
+{
+    into[0] = 0;
+    let mut t = 1;
+    while t < entry.len() {
+        into[t] = entry[t - 1];
+        t += 1;
+    }
+}
+
+// X times a row whose entries' last places are free.
+pub fn row_times_x(row: &[u32], into: &mut [u32], n: usize, width: usize)
+    requires { ⌜ (n ≤ 8) × (0 < width) × (length (now row) ≡ n * width) × (length (now into) ≡ n * width) ⌝ }
+    requires { ⌜ ((k : ℕ) → k < n → vector width (now row) k (width - 1) ≡ 0) ⌝ }
+    ensures { λ _. ⌜ (length (now (into .exit)) ≡ length (now (into .entry))) × (vector width (now (into .exit)) ≡ timesX (vector width (now (row .entry)))) ⌝ }
+{
+    let mut k = 0;
+    while k < n {
+        let start = k * width;
+        let end = start + width;
+        times_x(part_at(row, k, width), &mut into[start..end]);
+        k += 1;
+    }
+}
+
+pub fn fill_zero(into: &mut [u32])
+    ensures { λ _. ⌜ (length (now (into .exit)) ≡ length (now (into .entry))) × ((t : ℕ) → poly (now (into .exit)) t ≡ 0) ⌝ }
+{
+    let mut t = 0;
+    while t < into.len() {
+        into[t] = 0;
+        t += 1;
+    }
+}
+
+// Row i of the identity: the basis of V_0, which is everything.
+pub fn unit_row(row: &mut [u32], i: usize, n: usize, width: usize)
+    requires { ⌜ (n ≤ 8) × (i < n) × (0 < width) × (length (now row) ≡ n * width) ⌝ }
+    ensures { λ _. ⌜ (length (now (row .exit)) ≡ length (now (row .entry))) × (vector width (now (row .exit)) ≡ unit i) ⌝ }
+{
+    fill_zero(row);
+    row[i * width] = 1;
+}

@@ -1,0 +1,103 @@
+-- `identity` meets its contract: the first l rows are unit rows.
+use mathlib.Core.Path.{_≡_, _∙_}
+use Prim.Native.Nat.{_*_, _-_, _≤_}
+use native.Mathlib.Omega.{arith}
+use Rattle.relation.proofs.Vector.{unit}
+use Rattle.row.specs.View.{vector, row}
+use Rattle.row.proofs.Part.{row-words, part-fits, lent-length}
+use Rattle.row.proofs.Written.{PartsDone, parts-none, parts-turn}
+use Rattle.step.proofs.identity.Statement.{statement}
+use Rattle.step.proofs.identity.Tie as tie
+
+abbrev Inv-loop : tie.InvT-loop
+Inv-loop basis₀ n width size l₀ basis l = (l ≤ n) × PartsDone size (λ k ys. vector width ys ≡ unit k) basis₀ basis l
+
+abbrev μ-loop : tie.MeasureT-loop
+μ-loop basis₀ n width size l₀ basis l = n - l
+
+mul-size : tie.Need-mul-size Inv-loop μ-loop
+mul-size c = omega (arith, row-words (c .before .args .n) (c .before .args .width) (omega arith) (omega arith))
+
+loop-holds : tie.Need-loop-holds Inv-loop μ-loop
+loop-holds c = (omega arith, parts-none _ _ _)
+
+mul-start : tie.Need-mul-start Inv-loop μ-loop
+mul-start c =
+    let args = c .before .before .before .args in
+    omega (arith, part-fits (args .n) (args .n * args .width) (c .before .loop .l) (omega arith))
+
+add-end : tie.Need-add-end Inv-loop μ-loop
+add-end c =
+    let args = c .before .before .before .args in
+    omega (arith, part-fits (args .n) (args .n * args .width) (c .before .loop .l) (omega arith))
+
+mul-unit-row : tie.Need-mul-unit-row Inv-loop μ-loop
+mul-unit-row c =
+    let args = c .before .before .before .args in
+    omega (arith, part-fits (args .n) (args .n * args .width) (c .before .loop .l) (omega arith))
+
+sub-unit-row : tie.Need-sub-unit-row Inv-loop μ-loop
+sub-unit-row c = omega arith
+
+part-unit-row-start : tie.Need-part-unit-row-start Inv-loop μ-loop
+part-unit-row-start c = omega arith
+
+part-unit-row-end : tie.Need-part-unit-row-end Inv-loop μ-loop
+part-unit-row-end c =
+    let args = c .before .before .before .args in
+    omega (arith, part-fits (args .n) (args .n * args .width) (c .before .loop .l) (omega arith))
+
+unit-row-requires : tie.Need-unit-row-requires Inv-loop μ-loop
+unit-row-requires c κs =
+    let args = c .before .before .before .before .args in
+    let l = c .before .before .loop in
+    let size = args .n * args .width in
+    (omega arith, omega arith, omega arith, lent-length size (l .l) (l .basis) (omega (arith, part-fits (args .n) size (l .l) (omega arith))))
+
+add-l : tie.Need-add-l Inv-loop μ-loop
+add-l c = omega arith
+
+loop-less : tie.Need-loop-less Inv-loop μ-loop
+loop-less c = omega arith
+
+loop-again : tie.Need-loop-again Inv-loop μ-loop
+loop-again c =
+    let args = c .before .before .before .before .before .before .before .args in
+    let l = c .before .before .before .before .before .loop in
+    let size = args .n * args .width in
+    let fits = part-fits (args .n) size (l .l) (omega arith) in
+    let made = c .before .before .unit-row in (
+      omega arith,
+      parts-turn size _ _ (l .basis) (made .last .0) (l .l) (omega arith)
+          (made .ensures .0 ∙ lent-length size (l .l) (l .basis) (omega arith))
+          (made .ensures .1)
+          (l .inv .1),
+    )
+
+same-length : tie.Need-same-length Inv-loop μ-loop
+same-length c = omega arith
+
+returns : tie.Need-returns Inv-loop μ-loop
+unfolding row
+returns c = (c .before .loop .inv .1 .same, λ l h. c .before .loop .inv .1 .done l (omega arith))
+
+pub identity-spec : {M : Type 1} → statement M
+identity-spec =
+    tie.close
+    (tie.spec
+    Inv-loop
+    μ-loop
+    mul-size
+    loop-holds
+    mul-start
+    add-end
+    mul-unit-row
+    sub-unit-row
+    part-unit-row-start
+    part-unit-row-end
+    unit-row-requires
+    add-l
+    loop-less
+    loop-again
+    same-length
+    returns)

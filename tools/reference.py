@@ -1,0 +1,452 @@
+#!/usr/bin/env python3
+"""Reference for the relation engine: every answer by plain linear algebra over GF(p).
+
+The calls have the engine's arguments, buffers (lists that are written in place) and
+refusals, and share no method with it. docs/REFERENCE.md says how and why.
+
+  tools/reference.py relations < JOBFILE    the text of the job's basis
+  tools/reference.py job < TEXT > JOBFILE   p n s, type, coefficients; '#' starts a comment
+  tools/reference.py --selftest             all worked numbers, and the definitions by brute force
+"""
+import functools
+import itertools
+import sys
+
+LARGEST = 2147483647
+
+
+class Refused(Exception):
+    """A numbered refusal. It is raised before any buffer is written."""
+
+    def __init__(self, number):
+        super().__init__(number)
+        self.number = number
+
+
+def refuse(number, test):
+    if test:
+        raise Refused(number)
+
+
+# ---- The field -------------------------------------------------------------------------
+
+@functools.lru_cache(None)
+def is_prime(p):
+    """No divisor d with 1 < d and d * d <= p."""
+    return p >= 2 and all(p % d for d in itertools.takewhile(
+        lambda d: d * d <= p, itertools.chain([2], itertools.count(3, 2))))
+
+
+def test_modulus(p):
+    refuse(1, p < 2 or p > LARGEST or not is_prime(p))
+
+
+def test_coefficients(p, words):
+    refuse(6, any(a >= p for a in words))
+
+
+def field(p):
+    test_modulus(p)
+    return p
+
+
+def add(p, a, b):
+    test_modulus(p)
+    test_coefficients(p, [a, b])
+    return (a + b) % p
+
+
+def mul(p, a, b):
+    test_modulus(p)
+    test_coefficients(p, [a, b])
+    return a * b % p
+
+
+def inverse(p, a):
+    """The residue whose product with a is 1; None for zero."""
+    test_modulus(p)
+    test_coefficients(p, [a])
+    return pow(a, p - 2, p) if a else None
+
+
+# ---- The reduced minimal basis -----------------------------------------------------------
+
+def reduced_rows(p, n, s, d, f):
+    """The rows of the reduced minimal basis of V_s and their pivot degrees.
+
+    V_s is the kernel of the linear map that sends X^k e_i to the coefficients 0 to s - 1 of
+    X^k f_i. Go through the positions (i, k) by rising shifted degree k - d_i and then rising i:
+    a vector's leading position is the last of its positions in this order, its index is the
+    vector's type. Some member of V_s leads at (i, k) exactly when the image of X^k e_i depends
+    linearly on the images of earlier positions, and the first such k for i is the pivot degree
+    of row i. Written on the earlier independent positions alone, in one way only, the
+    dependency is monic at (i, k) and below the pivot degree in every column: the reduced row.
+    """
+    pivots = [None] * n
+    rows = [None] * n
+    independent = []  # (position, steps, scale, column, image): an echelon form of the images
+    for i, k in sorted(itertools.product(range(n), range(s + 1)), key=lambda q: (q[1] - d[q[0]], q[0])):
+        if pivots[i] is not None:
+            continue
+        image = ([0] * k + f[i])[:s]
+        steps = []  # image = sum of steps[l] * (echelon row l) + what is left
+        for _, _, _, column, other in independent:
+            c = image[column]
+            steps.append(c)
+            if c:
+                image = [(a - c * b) % p for a, b in zip(image, other)]
+        column = next((j for j in range(s) if image[j]), None)
+        if column is not None:
+            scale = pow(image[column], p - 2, p)
+            independent.append(((i, k), steps, scale, column, [a * scale % p for a in image]))
+            continue
+        pivots[i] = k
+        rows[i] = [[0] * (s + 1) for _ in range(n)]
+        rows[i][i][k] = 1
+        for at in reversed(range(len(independent))):  # from echelon rows back to positions
+            (j, t), made_by, scale, _, _ = independent[at]
+            c = steps[at] * scale % p
+            rows[i][j][t] = -c % p
+            for l in range(at):
+                steps[l] = (steps[l] - c * made_by[l]) % p
+    return rows, pivots
+
+
+def least_row(pivots, d):
+    """The number, from 1, of the row of least shifted degree, the lowest on a tie."""
+    return min(range(len(d)), key=lambda i: (pivots[i] - d[i], i)) + 1
+
+
+def solve(p, n, s, d, series, out):
+    rows, pivots = reduced_rows(p, n, s, d, [series[i * s:(i + 1) * s] for i in range(n)])
+    out[:] = [a for row in rows for entry in row for a in entry]
+    # V_(j+1) is V_j or has codimension 1 in it, so the codimension of V_s counts the orders.
+    return least_row(pivots, d), sum(pivots)
+
+
+# ---- The calls ---------------------------------------------------------------------------
+
+def basis(p, n, s, type_, series, out):
+    """Fills out; answers the least row's number and the count of orders that made V smaller."""
+    test_modulus(p)
+    refuse(2, not 1 <= n <= 8)
+    refuse(3, s > 255)
+    refuse(4, len(type_) != n or len(series) != n * s or len(out) != n * n * (s + 1))
+    refuse(5, any(d > 255 for d in type_))
+    test_coefficients(p, series)
+    return solve(p, n, s, type_, series, out)
+
+
+def order_of(type_):
+    return sum(d + 1 for d in type_) - 1
+
+
+def approximant(p, n, type_, series, out):
+    test_modulus(p)
+    refuse(2, not 1 <= n <= 8)
+    refuse(4, len(type_) != n)
+    refuse(5, any(d > 255 for d in type_))
+    s = order_of(type_)
+    refuse(3, s > 255)
+    refuse(4, len(series) != n * s or len(out) != n * n * (s + 1))
+    test_coefficients(p, series)
+    return solve(p, n, s, type_, series, out)
+
+
+def pair(p, k, g, r, t):
+    """The approximant of (-1, g) of type (k - 1, N - k), order N: r in k words, t in N - k + 1."""
+    order = len(g)
+    test_modulus(p)
+    refuse(3, order > 255)
+    refuse(7, not 1 <= k <= order)
+    refuse(4, len(r) != k or len(t) != order - k + 1)
+    test_coefficients(p, g)
+    d = [k - 1, order - k]
+    rows, pivots = reduced_rows(p, 2, order, d, [[p - 1] + [0] * (order - 1), list(g)])
+    row = rows[least_row(pivots, d) - 1]
+    r[:] = row[0][:k]
+    t[:] = row[1][:order - k + 1]
+
+
+def row_view(n, s, i, length):
+    """Start and length of row i's part of a basis buffer of that length; length 0 on a misfit."""
+    if not 1 <= n <= 8 or s > 255 or not 1 <= i <= n or length != n * n * (s + 1):
+        return 0, 0
+    return (i - 1) * n * (s + 1), n * (s + 1)
+
+
+# ---- Job files ---------------------------------------------------------------------------
+
+def checks(words):
+    a, b = 1, 0
+    for w in words:
+        a = (a + w) % 2 ** 32
+        b = (b + a) % 2 ** 32
+    return a, b
+
+
+def bytes_of(words):
+    return b''.join(w.to_bytes(4, 'little') for w in words)
+
+
+def words_of(data):
+    return [int.from_bytes(data[at:at + 4], 'little') for at in range(0, len(data), 4)]
+
+
+def block(number, payload):
+    words = [number] + payload
+    return bytes_of(words + list(checks(words)))
+
+
+def blocks_of(n, s):
+    return -(-(3 + n + n * s) // 125)
+
+
+def layout(p, n, s, type_, series):
+    """The job file: the payload words in just enough blocks, spare words zero."""
+    count = blocks_of(n, s)
+    words = [p, n, s] + list(type_) + list(series)
+    words += [0] * (125 * count - len(words))
+    return b''.join(block(b, words[125 * b:125 * b + 125]) for b in range(count))
+
+
+def write_job(p, n, s, type_, series, out):
+    """Writes the file to the start of out (8704 bytes); answers how many blocks."""
+    test_modulus(p)
+    refuse(2, not 1 <= n <= 8)
+    refuse(3, s > 255)
+    refuse(4, len(type_) != n or len(series) != n * s or len(out) != 8704)
+    refuse(5, any(d > 255 for d in type_))
+    test_coefficients(p, series)
+    data = layout(p, n, s, type_, series)
+    out[:len(data)] = data
+    return blocks_of(n, s)
+
+
+def read_job(data, type_, series):
+    """Writes the first n words of type_ and n * s of series; answers p, n and s."""
+    refuse(4, len(type_) != 8 or len(series) != 2040)
+    refuse(8, len(data) == 0 or len(data) % 512 != 0 or len(data) > 8704)
+    payload = []
+    for b in range(len(data) // 512):
+        words = words_of(data[512 * b:512 * b + 512])
+        refuse(9, words[0] != b)
+        refuse(10, tuple(words[126:]) != checks(words[:126]))
+        payload += words[1:126]
+    p, n, s = payload[:3]
+    test_modulus(p)
+    refuse(2, not 1 <= n <= 8)
+    refuse(3, s > 255)
+    refuse(11, len(data) // 512 != blocks_of(n, s))
+    used = 3 + n + n * s
+    refuse(12, any(payload[used:]))
+    refuse(5, any(d > 255 for d in payload[3:3 + n]))
+    test_coefficients(p, payload[3 + n:used])
+    type_[:n] = payload[3:3 + n]
+    series[:n * s] = payload[3 + n:used]
+    return p, n, s
+
+
+# ---- The text ------------------------------------------------------------------------------
+
+def entry_text(words):
+    """Coefficients, low first, without high zeros; '0' for the zero polynomial."""
+    top = max((t for t, a in enumerate(words) if a), default=0)
+    return ' '.join(map(str, words[:top + 1]))
+
+
+def basis_text(p, n, s, type_, series):
+    rows, pivots = reduced_rows(p, n, s, type_, [series[i * s:(i + 1) * s] for i in range(n)])
+    lines = [f'relations {p} {n} {s} type {" ".join(map(str, type_))}']
+    for i, row in enumerate(rows):
+        entries = ' | '.join(map(entry_text, row))
+        lines.append(f'row {i + 1} {pivots[i]} {pivots[i] - type_[i]} | {entries}')
+    lines.append(f'least {least_row(pivots, type_)}')
+    return ''.join(line + '\n' for line in lines)
+
+
+def relations(data):
+    """What the program prints for a job file."""
+    type_, series = [0] * 8, [0] * 2040
+    try:
+        p, n, s = read_job(data, type_, series)
+    except Refused as refusal:
+        return f'refused {refusal.number}\n'
+    return basis_text(p, n, s, type_[:n], series[:n * s])
+
+
+def text_job(text):
+    """p, n, s, type and series of a plain text job."""
+    numbers = [int(word) for line in text.splitlines() for word in line.split('#')[0].split()]
+    p, n, s = numbers[:3]
+    return p, n, s, numbers[3:3 + n], numbers[3 + n:]
+
+
+# ---- Self test -------------------------------------------------------------------------------
+
+def outcome(call, *arguments):
+    """The call's answer, or 'refused N'."""
+    try:
+        return call(*arguments)
+    except Refused as refusal:
+        return f'refused {refusal.number}'
+
+
+def flat(n, s, rows):
+    """A basis buffer from rows written as in document 01: '6 1, 6 2' is one row of two entries."""
+    words = []
+    for row in rows:
+        for entry in row.split(','):
+            coefficients = [int(a) for a in entry.split()]
+            words += coefficients + [0] * (s + 1 - len(coefficients))
+    assert len(words) == n * n * (s + 1)
+    return words
+
+
+WORKED = [  # name, p, s, type, series, rows, pivot degrees, shifted degrees, least row, count
+    ('C1', 7, 3, [0, 2], [6, 0, 0, 1, 1, 2], ['6 1, 6 2', '6, 6 1 1'], [1, 2], [1, 0], 2, 3),
+    ('C2', 7, 1, [0, 0], [1, 1], ['0 1, 0', '6, 1'], [1, 0], [1, 0], 2, 1),
+    ('C3', 7, 1, [0, 1], [1, 1], ['1, 6', '0, 0 1'], [0, 1], [0, 0], 1, 1),
+    ('C4', 2, 1, [0, 0, 0], [1, 1, 1], ['0 1, 0, 0', '1, 1, 0', '1, 0, 1'], [1, 0, 0], [1, 0, 0], 2, 1),
+    ('C5', 7, 2, [0], [0, 5], ['0 1'], [1], [1], 1, 1),
+    ('C6', 7, 2, [0, 0], [0, 0, 0, 0], ['1, 0', '0, 1'], [0, 0], [0, 0], 1, 0),
+    ('C7', 7, 0, [0], [], ['1'], [0], [0], 1, 0),
+]
+
+C1_TEXT = '''relations 7 2 3 type 0 2
+row 1 1 1 | 6 1 | 6 2
+row 2 2 0 | 6 | 6 1 1
+least 2
+'''
+
+
+def test_worked(check):
+    for name, p, s, d, series, rows, pivots, shifted, least, count in WORKED:
+        n = len(d)
+        out = [9] * (n * n * (s + 1))
+        check(name + ' answer', basis(p, n, s, d, series, out), (least, count))
+        check(name + ' rows', out, flat(n, s, rows))
+        found = reduced_rows(p, n, s, d, [series[i * s:(i + 1) * s] for i in range(n)])[1]
+        check(name + ' pivot degrees', found, pivots)
+        check(name + ' shifted degrees', [e - b for e, b in zip(found, d)], shifted)
+    out = [9]
+    check('C7 approximant', (order_of([0]), approximant(7, 1, [0], [], out), out), (0, (1, 0), [1]))
+    for name, g, wanted in (('C8', [1, 1, 2], ([6], [6, 1, 1])), ('C9', [0, 1], ([0], [0, 1]))):
+        r, t = [9], [9] * len(g)
+        pair(7, 1, g, r, t)
+        check(name, (r, t), wanted)
+    check('C10', inverse(7, 3), 5)
+    check('order of (127, 127)', order_of([127, 127]), 255)
+    check('order of (128, 127)', order_of([128, 127]), 256)
+    zeros = [0] * 510
+    check('(127, 127) admitted', outcome(approximant, 2, 2, [127, 127], zeros, [0] * 1024), (1, 0))
+    check('(128, 127) refused', outcome(approximant, 2, 2, [128, 127], zeros, [0] * 1024), 'refused 3')
+    for p in (2, 2147483647):
+        check(f'modulus {p}', outcome(field, p), p)
+    for p in (0, 1, 4, 2147117569, 2147483648):
+        check(f'modulus {p}', outcome(field, p), 'refused 1')
+    check('inverse of zero', inverse(7, 0), None)
+    check('pair of no terms', outcome(pair, 7, 0, [], [], []), 'refused 7')
+    check('checks of zeros', checks([0] * 126), (1, 126))
+    check('checks, word 1 is 7', checks([0, 7] + [0] * 124), (8, 1001))
+    check('checks, word 0 is 4294967295', checks([4294967295] + [0] * 125), (0, 0))
+    check('text of C1', relations(layout(7, 2, 3, [0, 2], [6, 0, 0, 1, 1, 2])), C1_TEXT)
+    check('largest file', len(layout(2, 8, 255, [0] * 8, [0] * 2040)), 17 * 512)
+
+
+def leading(vector, d):
+    """Shifted degree and type of a nonzero vector, in document 01's words."""
+    degrees = {i: max(t for t, a in enumerate(entry) if a) - d[i]
+               for i, entry in enumerate(vector) if any(entry)}
+    shifted = max(degrees.values())
+    return shifted, max(i for i in degrees if degrees[i] == shifted)
+
+
+def is_relation(p, s, f, vector):
+    """Coefficients 0 to s - 1 of the sum of P_i f_i are zero modulo p."""
+    return all(sum(vector[i][t] * f[i][j - t] for i in range(len(f)) for t in range(j + 1)) % p == 0
+               for j in range(s))
+
+
+def test_brute_force(check):
+    """Definitions over every vector of small degree: the rows are relations of the right type,
+    reduced, no smaller member of their type exists, and the count is found order by order."""
+    state = 1
+
+    def draw(bound):
+        nonlocal state
+        state = state * 48271 % LARGEST
+        return state % bound
+
+    for p, n, s in [(2, 1, 3), (2, 2, 3), (2, 3, 2), (2, 3, 3), (3, 1, 3), (3, 2, 2), (3, 2, 3), (5, 2, 2)]:
+        for _ in range(12):
+            d = [draw(4) for _ in range(n)]
+            f = [[draw(p) * (draw(3) > 0) for _ in range(s)] for _ in range(n)]
+            rows, pivots = reduced_rows(p, n, s, d, f)
+            # All vectors whose entries have degree at most s: no pivot degree is larger.
+            vectors = [[v[i * (s + 1):(i + 1) * (s + 1)] for i in range(n)]
+                       for v in itertools.product(range(p), repeat=n * (s + 1))]
+            members = [[v for v in vectors if any(map(any, v)) and is_relation(p, j, f, v)]
+                       for j in range(s + 1)]
+            least = [min(leading(v, d)[0] for v in members[s] if leading(v, d)[1] == i) for i in range(n)]
+            good = all(is_relation(p, s, f, row) and leading(row, d) == (least[i], i)
+                       and row[i][pivots[i]] == 1 and pivots[i] == least[i] + d[i]
+                       and not any(any(row[k][pivots[k]:]) for k in range(n) if k != i)
+                       for i, row in enumerate(rows))
+            check(f'brute force rows {p} {n} {s} {d} {f}', good, True)
+            shrunk = sum(len(members[j + 1]) != len(members[j]) for j in range(s))
+            m = next((j for j in range(s) if any(g[j] for g in f)), s)
+            check(f'brute force count {p} {n} {s} {d} {f}', (sum(pivots), sum(pivots)), (shrunk, s - m))
+
+
+def test_files(check):
+    type_, series = [5] * 8, [5] * 2040
+    data = layout(7, 2, 3, [0, 2], [6, 0, 0, 1, 1, 2])
+    check('reader', read_job(data, type_, series), (7, 2, 3))
+    check('reader type', type_, [0, 2] + [5] * 6)
+    check('reader series', series, [6, 0, 0, 1, 1, 2] + [5] * 2034)
+    out = [5] * 8704
+    check('writer', (write_job(7, 2, 3, [0, 2], [6, 0, 0, 1, 1, 2], out), bytes(out[:512]) == data, set(out[512:])),
+          (1, True, {5}))
+
+
+def selftest():
+    passed = failed = 0
+
+    def check(name, got, wanted):
+        nonlocal passed, failed
+        if got == wanted:
+            passed += 1
+        else:
+            failed += 1
+            print(f'{name}: {got}, wanted {wanted}')
+
+    test_worked(check)
+    test_files(check)
+    test_brute_force(check)
+    print(f'{passed} passed, {failed} failed')
+    return failed != 0
+
+
+def main(arguments):
+    if arguments == ['--selftest']:
+        return selftest()
+    if arguments == ['relations']:
+        sys.stdout.write(relations(sys.stdin.buffer.read()))
+        return 0
+    if arguments == ['job']:
+        p, n, s, type_, series = text_job(sys.stdin.read())
+        out = bytearray(8704)
+        try:
+            count = write_job(p, n, s, type_, series, out)
+        except Refused as refusal:
+            print(f'refused {refusal.number}', file=sys.stderr)
+            return 1
+        sys.stdout.buffer.write(out[:512 * count])
+        return 0
+    print(__doc__, file=sys.stderr)
+    return 2
+
+
+if __name__ == '__main__':
+    sys.exit(main(sys.argv[1:]))
