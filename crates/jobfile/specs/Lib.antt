@@ -1,0 +1,9 @@
+-- What the contracts of `jobfile` cite.
+pub mod Job
+pub mod Layout
+pub mod Some
+pub mod Payload
+pub mod Orders
+pub mod Answers
+pub mod Lent
+pub mod Outcomes

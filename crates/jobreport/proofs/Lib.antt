@@ -1,0 +1,3 @@
+-- Laws about the printed text.
+pub mod Print
+pub mod Unique

@@ -1,0 +1,2 @@
+-- What the contract of the printed text cites.
+pub mod Printed

@@ -1,0 +1,91 @@
+-- Words without high zeros: a high zero changes nothing, and what is left stands in front.
+use mathlib.Core.Path.{_≡_, refl, sym, ap, _∙_}
+use mathlib.Core.List.{List, [], _∷_, _++_}
+use Prim.Native.Nat.{ℕ, zero, suc, _+_, _*_, _-_, _≤_, _<_}
+use native.Mathlib.Nat.{suc-mul, mul-le-mul-right}
+use native.Mathlib.Omega.{arith}
+use lib.ListN.{length, take, drop, getD, length-append, length-take, length-drop}
+use lib.Seq.{take-suc, length-take-le}
+use Rattle.report.specs.Entry.{part, keep, trim, orZero, shown}
+
+trim-zero : (l : List ℕ) → trim (l ++ (0 ∷ [])) ≡ trim l
+unfolding trim keep
+trim-zero [] = refl
+trim-zero (c ∷ l) = ap (keep c) (trim-zero l)
+
+keep-cons : (c : ℕ) (l : List ℕ) → 0 < length l → keep c l ≡ c ∷ l
+unfolding keep
+keep-cons c [] h = absurd (omega arith)
+keep-cons c (x ∷ l) h = refl
+
+trim-last : (l : List ℕ) (c : ℕ) → 0 < c → trim (l ++ (c ∷ [])) ≡ l ++ (c ∷ [])
+unfolding trim keep
+trim-last [] zero h = absurd (omega arith)
+trim-last [] (suc c) h = refl
+trim-last (x ∷ l) c h = ap (keep x) (trim-last l c h) ∙ keep-cons x (l ++ (c ∷ [])) (omega (arith, length-append l (c ∷ [])))
+
+positive : (c : ℕ) → (c ≡ 0 → ⊥) → 0 < c
+positive zero f = absurd (f refl)
+positive (suc c) f = omega arith
+
+-- a loop from the last word down
+pub trim-turn : (l : List ℕ) (k : ℕ) → 0 < k → k ≤ length l → getD l (k - 1) 0 ≡ 0 → trim (take k l) ≡ trim (take (k - 1) l)
+trim-turn l zero h g z = absurd (omega arith)
+trim-turn l (suc j) h g z =
+    let e : suc j - 1 ≡ j = omega arith in
+    let f : getD l j 0 ≡ 0 = rw e at z in
+    rw (e, take-suc l j 0 (omega arith), f) (trim-zero (take j l))
+
+pub trim-stop : (l : List ℕ) (k : ℕ) → 0 < k → k ≤ length l → (getD l (k - 1) 0 ≡ 0 → ⊥) → length (trim (take k l)) ≡ k
+trim-stop l zero h g z = absurd (omega arith)
+trim-stop l (suc j) h g z =
+    let e : suc j - 1 ≡ j = omega arith in
+    let f : getD l j 0 ≡ 0 → ⊥ = rw e at z in
+    rw (take-suc l j 0 (omega arith), trim-last (take j l) (getD l j 0) (positive (getD l j 0) f)) (omega (arith, length-append (take j l) (getD l j 0 ∷ []), length-take-le j l (omega arith)))
+
+pub trim-none : (l : List ℕ) (k : ℕ) → k ≡ 0 → length (trim (take k l)) ≡ k
+unfolding trim
+trim-none l k e = rw e
+
+front : (c : ℕ) (l t : List ℕ) → t ≡ take (length t) l → keep c t ≡ take (length (keep c t)) (c ∷ l)
+unfolding keep
+front zero l [] e = refl
+front (suc c) l [] e = refl
+front c l (x ∷ t) e = ap (λ (r : List ℕ). c ∷ r) e
+
+-- what is left stands in front
+pub trim-front : (l : List ℕ) → trim l ≡ take (length (trim l)) l
+unfolding trim
+trim-front [] = refl
+trim-front (c ∷ l) = front c l (trim l) (trim-front l)
+
+pub trim-short : (l : List ℕ) → length (trim l) ≤ length l
+trim-short l = omega (arith, ap length (trim-front l), length-take (length (trim l)) l)
+
+pub shown-zero : (l : List ℕ) → length (trim l) ≡ 0 → shown l ≡ 0 ∷ []
+unfolding shown orZero
+shown-zero l e = go (trim l) e
+  where
+    go : (t : List ℕ) → length t ≡ 0 → orZero t ≡ 0 ∷ []
+    go [] z = refl
+    go (c ∷ t) z = absurd (omega arith)
+
+pub shown-front : (l : List ℕ) → (length (trim l) ≡ 0 → ⊥) → shown l ≡ take (length (trim l)) l
+unfolding shown orZero
+shown-front l e = go (trim l) e ∙ trim-front l
+  where
+    go : (t : List ℕ) → (length t ≡ 0 → ⊥) → orZero t ≡ t
+    go [] z = absurd (z refl)
+    go (c ∷ t) z = refl
+
+-- part k of n fits, and is what code lends as `&l[k * w..k * w + w]`
+pub part-fits : (n w k : ℕ) → k < n → k * w + w ≤ n * w
+part-fits n w k h = omega (arith, suc-mul k w, mul-le-mul-right {m = suc k} {n = n} w h)
+
+pub lent : (w k : ℕ) (l : List ℕ) → take (k * w + w - k * w) (drop (k * w) l) ≡ part w k l
+unfolding part
+lent w k l = let e : k * w + w - k * w ≡ w = omega arith in rw e
+
+pub part-length : (w k : ℕ) (l : List ℕ) → k * w + w ≤ length l → length (part w k l) ≡ w
+unfolding part
+part-length w k l h = length-take-le w (drop (k * w) l) (omega (arith, length-drop (k * w) l))

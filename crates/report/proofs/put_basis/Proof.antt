@@ -1,0 +1,40 @@
+-- `put_basis` meets its contract: its pieces are appended one after the other.
+use native.Mathlib.Omega.{arith}
+use Rattle.report.specs.Text.{basisText}
+use Rattle.report.proofs.Wrote.{room-first, room-rest, wrote-append}
+use borrow.Author.Needs.{needs}
+use Rattle.report.proofs.put_basis.Statement.{statement}
+use Rattle.report.proofs.put_basis.Tie as tie
+
+put-heading-requires : tie.Need-put-heading-requires
+unfolding basisText
+put-heading-requires c κs = room-first _ _ (room-first _ _ (c .before .before .before .before .pre .4))
+
+add-put-rows : tie.Need-add-put-rows
+add-put-rows c = search needs
+
+put-rows-requires : tie.Need-put-rows-requires
+unfolding basisText
+put-rows-requires c κs = (omega arith, omega arith, c .before .before .before .before .before .before .before .before .pre .2, c .before .before .before .before .before .before .before .before .pre .3, room-rest (room-first _ _ (c .before .before .before .before .before .before .before .before .pre .4)) (c .before .before .before .put-heading .ensures))
+
+put-least-requires : tie.Need-put-least-requires
+unfolding basisText
+put-least-requires c κs = room-rest (c .before .before .before .before .before .before .before .before .before .before .before .before .pre .4) (wrote-append (c .before .before .before .before .before .before .before .put-heading .ensures) (c .before .before .before .put-rows .ensures))
+
+same-length : tie.Need-same-length
+same-length c = search needs
+
+returns : tie.Need-returns
+unfolding basisText
+returns c = wrote-append (wrote-append (c .before .before .before .before .before .before .before .before .before .before .put-heading .ensures) (c .before .before .before .before .before .before .put-rows .ensures)) (c .before .before .put-least .ensures)
+
+pub put-basis-spec : {M : Type 1} → statement M
+put-basis-spec =
+    tie.close
+    (tie.spec
+    put-heading-requires
+    add-put-rows
+    put-rows-requires
+    put-least-requires
+    same-length
+    returns)

@@ -1,0 +1,65 @@
+-- `put_entry` meets its contract: a bar, and the words up to the last that is not zero.
+use mathlib.Core.Path.{_≡_, sym, ap, _∙_}
+use Prim.Native.Nat.{ℕ, _≤_}
+use native.Mathlib.Omega.{arith}
+use lib.ListN.{length, take}
+use lib.Seq.{length-take-le}
+use Rattle.report.specs.Each.{each}
+use Rattle.report.specs.Entry.{trim}
+use Rattle.report.specs.Text.{numbers, entryText}
+use Rattle.report.specs.Words.{bar}
+use Rattle.report.proofs.Entry.{shown-zero, shown-front, trim-short}
+use Rattle.report.proofs.Wrote.{room-first, room-rest, wrote-append, room-same, wrote-same}
+use borrow.Author.Needs.{needs}
+use Rattle.report.proofs.put_entry.Statement.{statement}
+use Rattle.report.proofs.put_entry.Tie as tie
+
+slice-aggregate-put : tie.Need-slice-aggregate-put
+slice-aggregate-put c = search needs
+
+put-requires : tie.Need-put-requires
+unfolding entryText
+put-requires c κs = room-first bar _ (c .before .before .before .before .pre)
+
+used-requires : tie.Need-used-requires
+used-requires c κs = search needs
+
+put-number-requires : tie.Need-put-number-requires
+unfolding entryText numbers each
+put-number-requires c κs = room-same (ap numbers (shown-zero _ (sym (c .before .before .used .ensures) ∙ c .before .if1 .taken))) (room-rest (c .before .before .before .before .before .before .before .before .before .before .pre) (c .before .before .before .before .before .put .ensures))
+
+slice-aggregate-put-numbers : tie.Need-slice-aggregate-put-numbers
+slice-aggregate-put-numbers c = sym (length-take-le _ _ (omega (arith, trim-short (c .before .before .before .before .before .before .before .before .before .before .args .entry .now), c .before .before .used .ensures)))
+
+put-numbers-requires : tie.Need-put-numbers-requires
+unfolding entryText
+put-numbers-requires c κs = room-same (ap numbers (shown-front _ (λ z. c .before .before .if1 .left (c .before .before .before .used .ensures ∙ z)) ∙ ap (λ (j : ℕ). take j (c .before .before .before .before .before .before .before .before .before .before .before .args .entry .now)) (sym (c .before .before .before .used .ensures)))) (room-rest (c .before .before .before .before .before .before .before .before .before .before .before .pre) (c .before .before .before .before .before .before .put .ensures))
+
+same-length : tie.Need-same-length
+same-length c = search needs
+
+returns : tie.Need-returns
+unfolding entryText numbers each
+returns c = wrote-append (c .before .before .before .before .before .before .before .before .put .ensures) (wrote-same (sym (ap numbers (shown-zero _ (sym (c .before .before .before .before .before .used .ensures) ∙ c .before .before .before .before .if1 .taken)))) (c .before .before .put-number .ensures))
+
+same-length-2 : tie.Need-same-length-2
+same-length-2 c = search needs
+
+returns-2 : tie.Need-returns-2
+unfolding entryText
+returns-2 c = wrote-append (c .before .before .before .before .before .before .before .before .before .put .ensures) (wrote-same (sym (ap numbers (shown-front _ (λ z. c .before .before .before .before .before .if1 .left (c .before .before .before .before .before .before .used .ensures ∙ z)) ∙ ap (λ (j : ℕ). take j (c .before .before .before .before .before .before .before .before .before .before .before .before .before .before .args .entry .now)) (sym (c .before .before .before .before .before .before .used .ensures))))) (c .before .before .put-numbers .ensures))
+
+pub put-entry-spec : {M : Type 1} → statement M
+put-entry-spec =
+    tie.close
+    (tie.spec
+    slice-aggregate-put
+    put-requires
+    used-requires
+    put-number-requires
+    slice-aggregate-put-numbers
+    put-numbers-requires
+    same-length
+    returns
+    same-length-2
+    returns-2)

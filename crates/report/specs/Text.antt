@@ -1,0 +1,52 @@
+-- The text of a basis and of a refusal: the lines that `relations` prints, each with its end of line.
+use mathlib.Core.List.{List, [], _∷_, _++_}
+use Prim.Native.Nat.{ℕ, suc, _+_, _*_}
+use lib.IntN.{ℤ, pos, _-ℤ_}
+use lib.ListN.{length, getD}
+use Rattle.report.specs.Each.{each}
+use Rattle.report.specs.Decimal.{decimal, signed}
+use Rattle.report.specs.Entry.{part, shown, degree}
+use Rattle.report.specs.Words.{relations, typed, row, space, bar, least, refused, line}
+
+-- a space and a number
+unfoldable pub number : ℕ → List ℕ
+number x = space ++ decimal x
+
+-- a space before each number
+unfoldable pub numbers : List ℕ → List ℕ
+numbers l = each (λ k. number (getD l k 0)) (length l)
+
+-- line 1: p, n, s, then the type entries
+unfoldable pub heading : ℕ → ℕ → ℕ → List ℕ → List ℕ
+heading p n s d = relations ++ number p ++ number n ++ number s ++ typed ++ numbers d ++ line
+
+-- an entry after its bar
+unfoldable pub entryText : List ℕ → List ℕ
+entryText e = bar ++ numbers (shown e)
+
+unfoldable pub entriesText : ℕ → ℕ → List ℕ → List ℕ
+entriesText n w l = each (λ k. entryText (part w k l)) n
+
+-- the shifted degree of row i, which has type i: its pivot degree less d_i
+unfoldable pub shiftedDegree : ℕ → ℕ → ℤ
+shiftedDegree e d = pos e -ℤ pos d
+
+-- a row line at its pivot degree e, for entries of w words: row number (from 1), pivot degree, shifted degree, then each entry
+unfoldable pub pivotLine : ℕ → ℕ → ℕ → ℕ → ℕ → List ℕ → List ℕ
+pivotLine n w e d i l = row ++ number (i + 1) ++ number e ++ space ++ signed (shiftedDegree e d) ++ entriesText n w l ++ line
+
+unfoldable pub rowLine : ℕ → ℕ → ℕ → ℕ → List ℕ → List ℕ
+rowLine n w d i l = pivotLine n w (degree (part w i l)) d i l
+
+unfoldable pub rowLines : ℕ → ℕ → List ℕ → List ℕ → List ℕ
+rowLines n w d basis = each (λ i. rowLine n w (getD d i 0) i (part (n * w) i basis)) n
+
+unfoldable pub leastLine : ℕ → List ℕ
+leastLine i = least ++ number i ++ line
+
+-- rows and entries are counted from 0 in the words, and from 1 in the text; i is the least row's number, from 1
+unfoldable pub basisText : ℕ → ℕ → ℕ → List ℕ → List ℕ → ℕ → List ℕ
+basisText p n s d basis i = heading p n s d ++ rowLines n (s + 1) d basis ++ leastLine i
+
+unfoldable pub refusalText : ℕ → List ℕ
+refusalText k = refused ++ number k ++ line

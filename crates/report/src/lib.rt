@@ -1,0 +1,274 @@
+// The text of a basis: the lines that `relations` prints, written to a lent buffer. Each function appends its piece of text at a position and answers the next position.
+use field::Tested;
+ghost use mathlib.Core.Path.{_≡_};
+ghost use mathlib.Core.List.{_∷_, []};
+ghost use Prim.Native.Nat.{ℕ, _+_, _*_, _-_, _^_, _<_, _≤_};
+ghost use lib.IntN.{pos, _-ℤ_};
+ghost use lib.ListN.{length};
+ghost use Rattle.field.specs.Calls.{Tests};
+ghost use Rattle.report.specs.Decimal.{decimal, signed};
+ghost use Rattle.report.specs.Each.{each};
+ghost use Rattle.report.specs.Entry.{part, trim, degree};
+ghost use Rattle.report.specs.Text.{number, numbers, heading, entryText, entriesText, shiftedDegree, pivotLine, rowLine, rowLines, leastLine, basisText, refusalText};
+ghost use Rattle.report.specs.Wrote.{Room, Wrote};
+ghost use Rattle.report.specs.Calls.{textSays, basisOrder, refusalOrder, BasisOutcome, RefusalOutcome};
+
+// Every text fits: 11 bytes for each number, at 8 rows of 8 entries of 256 words.
+pub const TEXT: usize = 180_809;
+
+pub enum TextAnswer {
+    Length(usize),
+    Refused(u32),
+}
+
+fn wide(x: u32) -> u64
+    ensures { λ r. ⌜ r ≡ x ⌝ }
+{
+    x as u64
+}
+
+// Part k of words that are cut into parts of w.
+fn part_at(words: &[u32], k: usize, w: usize) -> &[u32]
+    requires { ⌜ k * w + w ≤ length (now words) ⌝ }
+    ensures { λ r. ⌜ now r ≡ part w k (now (words .entry)) ⌝ }
+{
+    let start = k * w;
+    let end = start + w;
+    &words[start..end]
+}
+
+pub fn put(text: &[u8], out: &mut [u8], at: usize) -> usize
+    requires { ⌜ Room (now text) (now out) at ⌝ }
+    ensures { λ r. ⌜ Wrote (now (text .entry)) (now (out .entry)) at (now (out .exit)) r ⌝ }
+{
+    let mut next = at;
+    let mut k = 0;
+    while k < text.len() {
+        out[next] = text[k];
+        next += 1;
+        k += 1;
+    }
+    next
+}
+
+pub fn put_decimal(x: u64, out: &mut [u8], at: usize) -> usize
+    requires { ⌜ Room (decimal x) (now out) at ⌝ }
+    ensures { λ r. ⌜ Wrote (decimal x) (now (out .entry)) at (now (out .exit)) r ⌝ }
+{
+    let mut digits = [0u8; 20];
+    let k = io::decimal(x, &mut digits);
+    put(&digits[..k], out, at)
+}
+
+// A space and a number.
+pub fn put_number(x: u64, out: &mut [u8], at: usize) -> usize
+    requires { ⌜ Room (number x) (now out) at ⌝ }
+    ensures { λ r. ⌜ Wrote (number x) (now (out .entry)) at (now (out .exit)) r ⌝ }
+{
+    let next = put(b" ", out, at);
+    put_decimal(x, out, next)
+}
+
+// a - b, with a minus sign where it is negative.
+fn put_difference(a: u64, b: u64, out: &mut [u8], at: usize) -> usize
+    requires { ⌜ Room (signed (shiftedDegree a b)) (now out) at ⌝ }
+    ensures { λ r. ⌜ Wrote (signed (shiftedDegree a b)) (now (out .entry)) at (now (out .exit)) r ⌝ }
+{
+    if a < b {
+        let next = put(b"-", out, at);
+        put_decimal(b - a, out, next)
+    } else {
+        put_decimal(a - b, out, at)
+    }
+}
+
+fn put_numbers(words: &[u32], out: &mut [u8], at: usize) -> usize
+    requires { ⌜ Room (numbers (now words)) (now out) at ⌝ }
+    ensures { λ r. ⌜ Wrote (numbers (now (words .entry))) (now (out .entry)) at (now (out .exit)) r ⌝ }
+{
+    let mut next = at;
+    let mut k = 0;
+    while k < words.len() {
+        next = put_number(wide(words[k]), out, next);
+        k += 1;
+    }
+    next
+}
+
+// How many words an entry has up to its last that is not zero.
+fn used(entry: &[u32]) -> usize
+    ensures { λ r. ⌜ r ≡ length (trim (now (entry .entry))) ⌝ }
+{
+    let mut k = entry.len();
+    while k > 0 {
+        if entry[k - 1] != 0 {
+            return k;
+        }
+        k -= 1;
+    }
+    k
+}
+
+fn degree_of(entry: &[u32]) -> usize
+    ensures { λ r. ⌜ r ≡ degree (now (entry .entry)) ⌝ }
+{
+    let k = used(entry);
+    if k == 0 { 0 } else { k - 1 }
+}
+
+fn put_entry(entry: &[u32], out: &mut [u8], at: usize) -> usize
+    requires { ⌜ Room (entryText (now entry)) (now out) at ⌝ }
+    ensures { λ r. ⌜ Wrote (entryText (now (entry .entry))) (now (out .entry)) at (now (out .exit)) r ⌝ }
+{
+    let next = put(b" |", out, at);
+    let k = used(entry);
+    if k == 0 {
+        put_number(0, out, next)
+    } else {
+        put_numbers(&entry[..k], out, next)
+    }
+}
+
+fn put_entries(row: &[u32], n: usize, w: usize, out: &mut [u8], at: usize) -> usize
+    requires { ⌜ (length (now row) ≡ n * w) × Room (entriesText n w (now row)) (now out) at ⌝ }
+    ensures { λ r. ⌜ Wrote (entriesText n w (now (row .entry))) (now (out .entry)) at (now (out .exit)) r ⌝ }
+{
+    let mut next = at;
+    let mut k = 0;
+    while k < n {
+        next = put_entry(part_at(row, k, w), out, next);
+        k += 1;
+    }
+    next
+}
+
+// The line of row i, counted from 0, at its pivot degree; the line counts from 1.
+fn put_line(
+    row: &[u32],
+    i: usize,
+    n: usize,
+    w: usize,
+    pivot: u64,
+    d: u32,
+    out: &mut [u8],
+    at: usize,
+) -> usize
+    requires { ⌜ (i < n) × (n ≤ 8) × (length (now row) ≡ n * w) × Room (pivotLine n w pivot d i (now row)) (now out) at ⌝ }
+    ensures { λ r. ⌜ Wrote (pivotLine n w pivot d i (now (row .entry))) (now (out .entry)) at (now (out .exit)) r ⌝ }
+{
+    let named = put(b"row", out, at);
+    let counted = put_number(i as u64 + 1, out, named);
+    let pivoted = put_number(pivot, out, counted);
+    let spaced = put(b" ", out, pivoted);
+    let shifted = put_difference(pivot, d as u64, out, spaced);
+    let filled = put_entries(row, n, w, out, shifted);
+    put(b"\n", out, filled)
+}
+
+fn put_row(row: &[u32], i: usize, n: usize, w: usize, d: u32, out: &mut [u8], at: usize) -> usize
+    requires { ⌜ (i < n) × (n ≤ 8) × (length (now row) ≡ n * w) × Room (rowLine n w d i (now row)) (now out) at ⌝ }
+    ensures { λ r. ⌜ Wrote (rowLine n w d i (now (row .entry))) (now (out .entry)) at (now (out .exit)) r ⌝ }
+{
+    let pivot = degree_of(part_at(row, i, w));
+    put_line(row, i, n, w, pivot as u64, d, out, at)
+}
+
+fn put_rows(n: usize, w: usize, d: &[u32], basis: &[u32], out: &mut [u8], at: usize) -> usize
+    requires { ⌜ (n ≤ 8) × (w ≤ 256) × (length (now d) ≡ n) × (length (now basis) ≡ n * (n * w)) × Room (rowLines n w (now d) (now basis)) (now out) at ⌝ }
+    ensures { λ r. ⌜ Wrote (rowLines n w (now (d .entry)) (now (basis .entry))) (now (out .entry)) at (now (out .exit)) r ⌝ }
+{
+    let width = n * w;
+    let mut next = at;
+    let mut i = 0;
+    while i < n {
+        next = put_row(part_at(basis, i, width), i, n, w, d[i], out, next);
+        i += 1;
+    }
+    next
+}
+
+fn put_heading(p: u32, n: u32, s: u32, d: &[u32], out: &mut [u8], at: usize) -> usize
+    requires { ⌜ Room (heading p n s (now d)) (now out) at ⌝ }
+    ensures { λ r. ⌜ Wrote (heading p n s (now (d .entry))) (now (out .entry)) at (now (out .exit)) r ⌝ }
+{
+    let named = put(b"relations", out, at);
+    let modulus = put_number(p as u64, out, named);
+    let count = put_number(n as u64, out, modulus);
+    let order = put_number(s as u64, out, count);
+    let typed = put(b" type", out, order);
+    let entries = put_numbers(d, out, typed);
+    put(b"\n", out, entries)
+}
+
+fn put_least(least: u32, out: &mut [u8], at: usize) -> usize
+    requires { ⌜ Room (leastLine least) (now out) at ⌝ }
+    ensures { λ r. ⌜ Wrote (leastLine least) (now (out .entry)) at (now (out .exit)) r ⌝ }
+{
+    let named = put(b"least", out, at);
+    let counted = put_number(least as u64, out, named);
+    put(b"\n", out, counted)
+}
+
+fn put_refused(k: u32, out: &mut [u8]) -> usize
+    requires { ⌜ Room (refusalText k) (now out) 0 ⌝ }
+    ensures { λ r. ⌜ Wrote (refusalText k) (now (out .entry)) 0 (now (out .exit)) r ⌝ }
+{
+    let named = put(b"refused", out, 0);
+    let counted = put_number(k as u64, out, named);
+    put(b"\n", out, counted)
+}
+
+fn put_basis(p: u32, n: u32, s: u32, d: &[u32], basis: &[u32], least: u32, out: &mut [u8]) -> usize
+    requires { ⌜ (n ≤ 8) × (s ≤ 255) × (length (now d) ≡ n) × (length (now basis) ≡ n * (n * (s + 1))) × Room (basisText p n s (now d) (now basis) least) (now out) 0 ⌝ }
+    ensures { λ r. ⌜ Wrote (basisText p n s (now (d .entry)) (now (basis .entry)) least) (now (out .entry)) 0 (now (out .exit)) r ⌝ }
+{
+    let headed = put_heading(p, n, s, d, out, 0);
+    let rows = put_rows(n as usize, s as usize + 1, d, basis, out, headed);
+    put_least(least, out, rows)
+}
+
+// The tests of a call that writes a basis.
+fn test_basis(n: u32, s: u32, types: usize, words: usize, bytes: usize) -> Tested
+    ensures { λ r. ⌜ Tests (basisOrder n s types words bytes) r ⌝ }
+{
+    if n < 1 || n > 8 {
+        return Tested::Refused(2);
+    }
+    if s > 255 {
+        return Tested::Refused(3);
+    }
+    let count = n as usize;
+    let size = count * (count * (s as usize + 1));
+    if types != count || words != size || bytes != TEXT {
+        return Tested::Refused(4);
+    }
+    Tested::Passed
+}
+
+// The text of a basis: p, n, s, the type, the basis words and the least row's number, from 1.
+pub fn write_basis(
+    p: u32,
+    n: u32,
+    s: u32,
+    d: &[u32],
+    basis: &[u32],
+    least: u32,
+    out: &mut [u8],
+) -> TextAnswer
+    ensures { λ r. ⌜ BasisOutcome p n s (now (d .entry)) (now (basis .entry)) least (now (out .entry)) (now (out .exit)) (textSays r) ⌝ }
+{
+    match test_basis(n, s, d.len(), basis.len(), out.len()) {
+        Tested::Passed => TextAnswer::Length(put_basis(p, n, s, d, basis, least, out)),
+        Tested::Refused(k) => TextAnswer::Refused(k),
+    }
+}
+
+// The text of a refusal.
+pub fn write_refusal(k: u32, out: &mut [u8]) -> TextAnswer
+    ensures { λ r. ⌜ RefusalOutcome k (now (out .entry)) (now (out .exit)) (textSays r) ⌝ }
+{
+    if out.len() != TEXT {
+        return TextAnswer::Refused(4);
+    }
+    TextAnswer::Length(put_refused(k, out))
+}
