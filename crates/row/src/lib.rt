@@ -89,8 +89,8 @@ pub fn add_multiple(f: Field, entry: &mut [u32], from: &[u32], c: u32, top: Degr
     }
 }
 
-// c times a row is added to another.
-pub fn add_row_multiple(
+// c times a row is added to another, entry by entry.
+fn add_entries(
     f: Field,
     row: &mut [u32],
     from: &[u32],
@@ -112,6 +112,27 @@ pub fn add_row_multiple(
         let top = tops[k];
         add_multiple(f, &mut row[start..end], part_at(from, k, width), c, top);
         k += 1;
+    }
+}
+
+// c times a row is added to another. A multiple of p adds nothing, and is skipped.
+pub fn add_row_multiple(
+    f: Field,
+    row: &mut [u32],
+    from: &[u32],
+    c: u32,
+    tops: [Degree; 8],
+    n: usize,
+    width: usize,
+)
+    requires { ⌜ (0 < f .modulus) × (n ≤ 8) × (length (now row) ≡ n * width) × (length (now from) ≡ n * width) ⌝ }
+    requires { ⌜ ((k : ℕ) → k < n → degreeAt tops k < width) ⌝ }
+    requires { ⌜ Below (f .modulus) (vector width (now row)) ⌝ }
+    requires { ⌜ RowEndsAt n (vector width (now from)) (degreeAt tops) ⌝ }
+    ensures { λ _. ⌜ (length (now (row .exit)) ≡ length (now (row .entry))) × (vector width (now (row .exit)) ≡ addMultiple (f .modulus) c (vector width (now (from .entry))) (vector width (now (row .entry)))) ⌝ }
+{
+    if c % f.modulus != 0 {
+        add_entries(f, row, from, c, tops, n, width);
     }
 }
 

@@ -22,10 +22,14 @@ shared-slice-read-out : tie.Need-shared-slice-read-out Inv-loop μ-loop
 shared-slice-read-out c = omega arith
 
 slice-write-out : tie.Need-slice-write-out Inv-loop μ-loop
-slice-write-out c = let l = c .before .before .loop in room-turn _ (l .k) (omega arith) (c .before .before .before .pre) (l .inv .1)
+slice-write-out c =
+    let l = c .before .before .loop in
+    room-turn _ (l .k) (omega arith) (c .before .before .before .pre) (l .inv .1)
 
 add-next : tie.Need-add-next Inv-loop μ-loop
-add-next c = let l = c .before .before .loop in omega (arith, room-turn _ (l .k) (omega arith) (c .before .before .before .pre) (l .inv .1), wrote-length (l .inv .1))
+add-next c =
+    let l = c .before .before .loop in
+    omega (arith, room-turn _ (l .k) (omega arith) (c .before .before .before .pre) (l .inv .1), wrote-length (l .inv .1))
 
 add-k : tie.Need-add-k Inv-loop μ-loop
 add-k c = omega arith
@@ -34,13 +38,17 @@ loop-less : tie.Need-loop-less Inv-loop μ-loop
 loop-less c = omega arith
 
 loop-again : tie.Need-loop-again Inv-loop μ-loop
-loop-again c = let l = c .before .before .loop in (omega arith, wrote-turn _ (l .k) (omega arith) (l .inv .1))
+loop-again c =
+    let l = c .before .before .loop in
+    (omega arith, wrote-turn _ (l .k) (omega arith) (l .inv .1))
 
 same-length : tie.Need-same-length Inv-loop μ-loop
 same-length c = wrote-length (c .before .loop .inv .1)
 
 returns : tie.Need-returns Inv-loop μ-loop
-returns c = let l = c .before .loop in rw (take-all (l .k) (c .before .before .args .text .now) (omega arith)) at (l .inv .1)
+returns c =
+    let l = c .before .loop in
+    rw (take-all (l .k) (c .before .before .args .text .now) (omega arith)) at (l .inv .1)
 
 pub put-spec : {M : Type 1} → statement M
 put-spec =

@@ -18,13 +18,17 @@ slice-aggregate-put : tie.Need-slice-aggregate-put
 slice-aggregate-put c = search needs
 
 put-requires : tie.Need-put-requires
-put-requires c κs = let d = c .before .before .decimal .ensures in room-same (sym (d .1 .1 ∙ fewest-decimal _ _ (d .1 .0))) (c .before .before .before .before .before .pre)
+put-requires c κs =
+    let d = c .before .before .decimal .ensures in
+    room-same (sym (d .1 .1 ∙ fewest-decimal _ _ (d .1 .0))) (c .before .before .before .before .before .pre)
 
 same-length : tie.Need-same-length
 same-length c = search needs
 
 returns : tie.Need-returns
-returns c = let d = c .before .before .before .before .before .decimal .ensures in wrote-same (d .1 .1 ∙ fewest-decimal _ _ (d .1 .0)) (c .before .before .put .ensures)
+returns c =
+    let d = c .before .before .before .before .before .decimal .ensures in
+    wrote-same (d .1 .1 ∙ fewest-decimal _ _ (d .1 .0)) (c .before .before .put .ensures)
 
 pub put-decimal-spec : {M : Type 1} → statement M
 put-decimal-spec =

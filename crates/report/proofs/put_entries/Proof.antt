@@ -23,11 +23,15 @@ unfolding each
 loop-holds c = (omega arith, wrote-none _ _)
 
 part-at-requires : tie.Need-part-at-requires Inv-loop μ-loop
-part-at-requires c κs = let a = c .before .before .before .before .args in omega (arith, part-fits (a .n) (a .w) (c .before .loop .k) (omega arith))
+part-at-requires c κs =
+    let a = c .before .before .before .before .args in
+    omega (arith, part-fits (a .n) (a .w) (c .before .loop .k) (omega arith))
 
 put-entry-requires : tie.Need-put-entry-requires Inv-loop μ-loop
 unfolding entriesText
-put-entry-requires c κs = let l = c .before .before .before .loop in room-same (ap entryText (sym (c .before .part-at .ensures))) (room-each _ _ (l .k) (omega arith) (c .before .before .before .before .before .before .pre .1) (l .inv .1))
+put-entry-requires c κs =
+    let l = c .before .before .before .loop in
+    room-same (ap entryText (sym (c .before .part-at .ensures))) (room-each _ _ (l .k) (omega arith) (c .before .before .before .before .before .before .pre .1) (l .inv .1))
 
 add-k : tie.Need-add-k Inv-loop μ-loop
 add-k c = omega arith
@@ -36,14 +40,18 @@ loop-less : tie.Need-loop-less Inv-loop μ-loop
 loop-less c = omega arith
 
 loop-again : tie.Need-loop-again Inv-loop μ-loop
-loop-again c = let l = c .before .before .before .before .before .before .loop in (omega arith, wrote-each _ (l .k) (l .inv .1) (wrote-same (ap entryText (c .before .before .before .before .part-at .ensures)) (c .before .before .put-entry .ensures)))
+loop-again c =
+    let l = c .before .before .before .before .before .before .loop in
+    (omega arith, wrote-each _ (l .k) (l .inv .1) (wrote-same (ap entryText (c .before .before .before .before .part-at .ensures)) (c .before .before .put-entry .ensures)))
 
 same-length : tie.Need-same-length Inv-loop μ-loop
 same-length c = wrote-length (c .before .loop .inv .1)
 
 returns : tie.Need-returns Inv-loop μ-loop
 unfolding entriesText
-returns c = let e : c .before .loop .k ≡ c .before .before .before .before .args .n = omega arith in rw e at (c .before .loop .inv .1)
+returns c =
+    let e : c .before .loop .k ≡ c .before .before .before .before .args .n = omega arith in
+    rw e at (c .before .loop .inv .1)
 
 pub put-entries-spec : {M : Type 1} → statement M
 put-entries-spec =

@@ -32,7 +32,9 @@ wide-requires c κs = omega arith
 
 put-number-requires : tie.Need-put-number-requires Inv-loop μ-loop
 unfolding numbers
-put-number-requires c κs = let l = c .before .before .before .before .loop in room-same (ap number (sym (c .before .wide .ensures))) (room-each _ _ (l .k) (omega arith) (c .before .before .before .before .before .before .before .pre) (l .inv .1))
+put-number-requires c κs =
+    let l = c .before .before .before .before .loop in
+    room-same (ap number (sym (c .before .wide .ensures))) (room-each _ _ (l .k) (omega arith) (c .before .before .before .before .before .before .before .pre) (l .inv .1))
 
 add-k : tie.Need-add-k Inv-loop μ-loop
 add-k c = omega arith
@@ -41,14 +43,18 @@ loop-less : tie.Need-loop-less Inv-loop μ-loop
 loop-less c = omega arith
 
 loop-again : tie.Need-loop-again Inv-loop μ-loop
-loop-again c = let l = c .before .before .before .before .before .before .before .loop in (omega arith, wrote-each _ (l .k) (l .inv .1) (wrote-same (ap number (c .before .before .before .before .wide .ensures)) (c .before .before .put-number .ensures)))
+loop-again c =
+    let l = c .before .before .before .before .before .before .before .loop in
+    (omega arith, wrote-each _ (l .k) (l .inv .1) (wrote-same (ap number (c .before .before .before .before .wide .ensures)) (c .before .before .put-number .ensures)))
 
 same-length : tie.Need-same-length Inv-loop μ-loop
 same-length c = wrote-length (c .before .loop .inv .1)
 
 returns : tie.Need-returns Inv-loop μ-loop
 unfolding numbers
-returns c = let e : c .before .loop .k ≡ length (c .before .before .before .before .args .words .now) = omega arith in rw e at (c .before .loop .inv .1)
+returns c =
+    let e : c .before .loop .k ≡ length (c .before .before .before .before .args .words .now) = omega arith in
+    rw e at (c .before .loop .inv .1)
 
 pub put-numbers-spec : {M : Type 1} → statement M
 put-numbers-spec =

@@ -16,7 +16,9 @@ unfolding rowLine
 at-pivot n w d i l e h = ap (λ (x : ℕ). pivotLine n w x d i l) h
 
 part-at-requires : tie.Need-part-at-requires
-part-at-requires c κs = let a = c .before .before .args in omega (arith, part-fits (a .n) (a .w) (a .i) (omega arith))
+part-at-requires c κs =
+    let a = c .before .before .args in
+    omega (arith, part-fits (a .n) (a .w) (a .i) (omega arith))
 
 degree-of-requires : tie.Need-degree-of-requires
 degree-of-requires c κs = search needs

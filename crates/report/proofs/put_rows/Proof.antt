@@ -21,14 +21,18 @@ abbrev μ-loop : tie.MeasureT-loop
 μ-loop n w d basis out₀ at width next₀ i₀ out next i = n - i
 
 mul-width : tie.Need-mul-width Inv-loop μ-loop
-mul-width c = let a = c .before .before .before .args in omega (arith, width-most (a .n) (a .w) (omega arith) (omega arith))
+mul-width c =
+    let a = c .before .before .before .args in
+    omega (arith, width-most (a .n) (a .w) (omega arith) (omega arith))
 
 loop-holds : tie.Need-loop-holds Inv-loop μ-loop
 unfolding each
 loop-holds c = (omega arith, wrote-none _ _)
 
 part-at-requires : tie.Need-part-at-requires Inv-loop μ-loop
-part-at-requires c κs = let a = c .before .before .before .before .before .args in omega (arith, part-fits (a .n) (a .n * a .w) (c .before .loop .i) (omega arith))
+part-at-requires c κs =
+    let a = c .before .before .before .before .before .args in
+    omega (arith, part-fits (a .n) (a .n * a .w) (c .before .loop .i) (omega arith))
 
 mul-put-row : tie.Need-mul-put-row Inv-loop μ-loop
 mul-put-row c = omega arith
@@ -38,7 +42,10 @@ shared-slice-read-put-row c = omega arith
 
 put-row-requires : tie.Need-put-row-requires Inv-loop μ-loop
 unfolding rowLines
-put-row-requires c κs = let a = c .before .before .before .before .before .before .before .before .args in let l = c .before .before .before .before .loop in (omega arith, omega arith, ap length (c .before .before .part-at .ensures) ∙ part-length _ _ _ (omega (arith, part-fits (a .n) (a .n * a .w) (l .i) (omega arith))), room-same (ap (rowLine _ _ _ _) (sym (c .before .before .part-at .ensures))) (room-each _ _ (l .i) (omega arith) (c .before .before .before .before .before .before .before .before .pre .4) (l .inv .1)))
+put-row-requires c κs =
+    let a = c .before .before .before .before .before .before .before .before .args in
+    let l = c .before .before .before .before .loop in
+    (omega arith, omega arith, ap length (c .before .before .part-at .ensures) ∙ part-length _ _ _ (omega (arith, part-fits (a .n) (a .n * a .w) (l .i) (omega arith))), room-same (ap (rowLine _ _ _ _) (sym (c .before .before .part-at .ensures))) (room-each _ _ (l .i) (omega arith) (c .before .before .before .before .before .before .before .before .pre .4) (l .inv .1)))
 
 add-i : tie.Need-add-i Inv-loop μ-loop
 add-i c = omega arith
@@ -47,14 +54,18 @@ loop-less : tie.Need-loop-less Inv-loop μ-loop
 loop-less c = omega arith
 
 loop-again : tie.Need-loop-again Inv-loop μ-loop
-loop-again c = let l = c .before .before .before .before .before .before .before .loop in (omega arith, wrote-each _ (l .i) (l .inv .1) (wrote-same (ap (rowLine _ _ _ _) (c .before .before .before .before .before .part-at .ensures)) (c .before .before .put-row .ensures)))
+loop-again c =
+    let l = c .before .before .before .before .before .before .before .loop in
+    (omega arith, wrote-each _ (l .i) (l .inv .1) (wrote-same (ap (rowLine _ _ _ _) (c .before .before .before .before .before .part-at .ensures)) (c .before .before .put-row .ensures)))
 
 same-length : tie.Need-same-length Inv-loop μ-loop
 same-length c = wrote-length (c .before .loop .inv .1)
 
 returns : tie.Need-returns Inv-loop μ-loop
 unfolding rowLines
-returns c = let e : c .before .loop .i ≡ c .before .before .before .before .before .args .n = omega arith in rw e at (c .before .loop .inv .1)
+returns c =
+    let e : c .before .loop .i ≡ c .before .before .before .before .before .args .n = omega arith in
+    rw e at (c .before .loop .inv .1)
 
 pub put-rows-spec : {M : Type 1} → statement M
 put-rows-spec =

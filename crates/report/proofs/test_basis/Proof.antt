@@ -23,10 +23,15 @@ add-size : tie.Need-add-size
 add-size c = search needs
 
 mul-size : tie.Need-mul-size
-mul-size c = let a = c .before .before .before .args in omega (arith, ltb-false 8 (a .n) (c .before .if2 .left), width-most (a .n) (a .s + 1) (omega (arith, ltb-false 8 (a .n) (c .before .if2 .left))) (omega arith))
+mul-size c =
+    let a = c .before .before .before .args in
+    omega (arith, ltb-false 8 (a .n) (c .before .if2 .left), width-most (a .n) (a .s + 1) (omega (arith, ltb-false 8 (a .n) (c .before .if2 .left))) (omega arith))
 
 mul-size-2 : tie.Need-mul-size-2
-mul-size-2 c = let a = c .before .before .before .args in let few : a .n ≤ 8 = ltb-false 8 (a .n) (c .before .if2 .left) in omega (arith, width-most (a .n) (a .s + 1) few (omega arith), mul-le-mul-right {m = a .n} {n = 8} (a .n * (a .s + 1)) few)
+mul-size-2 c =
+    let a = c .before .before .before .args in
+    let few : a .n ≤ 8 = ltb-false 8 (a .n) (c .before .if2 .left) in
+    omega (arith, width-most (a .n) (a .s + 1) few (omega arith), mul-le-mul-right {m = a .n} {n = 8} (a .n * (a .s + 1)) few)
 
 returns-3 : tie.Need-returns-3
 unfolding Outcome First

@@ -29,7 +29,9 @@ shared-slice-read-if1 : tie.Need-shared-slice-read-if1 Inv-loop μ-loop
 shared-slice-read-if1 c = omega arith
 
 returns : tie.Need-returns Inv-loop μ-loop
-returns c = let l = c .before .before .before .loop in sym (ap length (l .inv .1) ∙ trim-stop _ (l .k) (omega arith) (omega arith) (c .if1 .taken))
+returns c =
+    let l = c .before .before .before .loop in
+    sym (ap length (l .inv .1) ∙ trim-stop _ (l .k) (omega arith) (omega arith) (c .if1 .taken))
 
 sub-k : tie.Need-sub-k Inv-loop μ-loop
 sub-k c = omega arith
@@ -38,10 +40,14 @@ loop-less : tie.Need-loop-less Inv-loop μ-loop
 loop-less c = omega arith
 
 loop-again : tie.Need-loop-again Inv-loop μ-loop
-loop-again c = let l = c .before .before .before .loop in (omega arith, l .inv .1 ∙ trim-turn _ (l .k) (omega arith) (omega arith) (c .if1 .left))
+loop-again c =
+    let l = c .before .before .before .loop in
+    (omega arith, l .inv .1 ∙ trim-turn _ (l .k) (omega arith) (omega arith) (c .if1 .left))
 
 returns-2 : tie.Need-returns-2 Inv-loop μ-loop
-returns-2 c = let l = c .before .loop in sym (ap length (l .inv .1) ∙ trim-none _ (l .k) (omega arith))
+returns-2 c =
+    let l = c .before .loop in
+    sym (ap length (l .inv .1) ∙ trim-none _ (l .k) (omega arith))
 
 pub used-spec : {M : Type 1} → statement M
 used-spec =

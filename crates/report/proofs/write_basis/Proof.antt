@@ -19,7 +19,11 @@ enum-told : tie.Need-enum-told
 enum-told c = search needs
 
 put-basis-requires : tie.Need-put-basis-requires
-put-basis-requires c κs = let a = c .before .before .before .before .before .before .before .args in let f = c .before .before .before .before .before .before .before .fits in let b = (basis-passed _ _ _ _ _ (passed _ _ (c .before .before .before .test-basis .ensures) (c .before .enum-told .given .1))) in (b .rows, b .order, b .typed, b .filled, (record { fits = omega (arith, b .room, basis-fits (a .p) (a .n) (a .s) (a .d .now) (a .basis .now) (a .least) (f .p .fits) (b .rows) (b .order) (f .least .fits) (b .typed) (b .filled) (λ k. c .before .before .before .before .before .before .shared-slice-known .given k .fits) (λ k. c .before .before .before .before .before .shared-slice-known2 .given k .fits)) }))
+put-basis-requires c κs =
+    let a = c .before .before .before .before .before .before .before .args in
+    let f = c .before .before .before .before .before .before .before .fits in
+    let b = (basis-passed _ _ _ _ _ (passed _ _ (c .before .before .before .test-basis .ensures) (c .before .enum-told .given .1))) in
+    (b .rows, b .order, b .typed, b .filled, (record { fits = omega (arith, b .room, basis-fits (a .p) (a .n) (a .s) (a .d .now) (a .basis .now) (a .least) (f .p .fits) (b .rows) (b .order) (f .least .fits) (b .typed) (b .filled) (λ k. c .before .before .before .before .before .before .shared-slice-known .given k .fits) (λ k. c .before .before .before .before .before .shared-slice-known2 .given k .fits)) }))
 
 enum-known-k : tie.Need-enum-known-k
 enum-known-k c = search needs
@@ -29,7 +33,11 @@ same-length c = search needs
 
 returns : tie.Need-returns
 unfolding BasisOutcome Outcome
-returns c = let a = c .before .before .before .before .before .before .before .before .before .before .args in let f = c .before .before .before .before .before .before .before .before .before .before .fits in let b = (basis-passed _ _ _ _ _ (passed _ _ (c .before .before .before .before .before .before .test-basis .ensures) (c .before .before .before .before .enum-told .given .1))) in inl (passed _ _ (c .before .before .before .before .before .before .test-basis .ensures) (c .before .before .before .before .enum-told .given .1), wrote-answer (record { fits = omega (arith, b .room, basis-fits (a .p) (a .n) (a .s) (a .d .now) (a .basis .now) (a .least) (f .p .fits) (b .rows) (b .order) (f .least .fits) (b .typed) (b .filled) (λ k. c .before .before .before .before .before .before .before .before .before .shared-slice-known .given k .fits) (λ k. c .before .before .before .before .before .before .before .before .shared-slice-known2 .given k .fits)) }) (c .before .before .put-basis .ensures))
+returns c =
+    let a = c .before .before .before .before .before .before .before .before .before .before .args in
+    let f = c .before .before .before .before .before .before .before .before .before .before .fits in
+    let b = (basis-passed _ _ _ _ _ (passed _ _ (c .before .before .before .before .before .before .test-basis .ensures) (c .before .before .before .before .enum-told .given .1))) in
+    inl (passed _ _ (c .before .before .before .before .before .before .test-basis .ensures) (c .before .before .before .before .enum-told .given .1), wrote-answer (record { fits = omega (arith, b .room, basis-fits (a .p) (a .n) (a .s) (a .d .now) (a .basis .now) (a .least) (f .p .fits) (b .rows) (b .order) (f .least .fits) (b .typed) (b .filled) (λ k. c .before .before .before .before .before .before .before .before .before .shared-slice-known .given k .fits) (λ k. c .before .before .before .before .before .before .before .before .shared-slice-known2 .given k .fits)) }) (c .before .before .put-basis .ensures))
 
 returns-2 : tie.Need-returns-2
 unfolding BasisOutcome Outcome

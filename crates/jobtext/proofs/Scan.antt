@@ -1,0 +1,139 @@
+-- The scan, byte by byte, from a position of the text.
+use mathlib.Core.Path.{_≡_, refl, sym, ap, _∙_}
+use mathlib.Core.Bool.{true, false}
+use mathlib.Core.List.{List, [], _∷_, _++_}
+use Prim.Native.Nat.{ℕ, zero, suc, _+_, _-_, _≤_, _<_}
+use native.Mathlib.Numerals.{add-one}
+use native.Mathlib.Omega.{arith}
+use lib.Dec.{eqb}
+use lib.ListN.{length, getD, take, drop, length-drop, drop-of-length-le}
+use lib.Seq.{drop-cons, take-suc, getD-drop}
+use borrow.Author.Tests.{eq-eqb, ne-eqb}
+use Rattle.jobtext.specs.declared.Class.{Class}
+use Rattle.jobtext.specs.Tokens.{Tokens, over, word, classOf, Standing, between, comment, within, scan, rest}
+
+module _ (b : ℕ) (t : List ℕ) (l : ℕ) where
+  step-newline : classOf b ≡ Class.Newline → scan between l (b ∷ t) ≡ scan between (suc l) t
+  unfolding scan
+  step-newline h = rw (h, scan)
+
+  step-blank : classOf b ≡ Class.Blank → scan between l (b ∷ t) ≡ scan between l t
+  unfolding scan
+  step-blank h = rw (h, scan)
+
+  step-hash : classOf b ≡ Class.Hash → scan between l (b ∷ t) ≡ scan comment l t
+  unfolding scan
+  step-hash h = rw (h, scan)
+
+  step-other : classOf b ≡ Class.Other → scan between l (b ∷ t) ≡ scan (within []) l (b ∷ t)
+  unfolding scan
+  step-other h = rw (h, scan)
+
+  comment-on : (b ≡ 10 → ⊥) → scan comment l (b ∷ t) ≡ scan comment l t
+  unfolding scan
+  comment-on h = rw (ne-eqb b 10 h, scan)
+
+  comment-off : b ≡ 10 → scan comment l (b ∷ t) ≡ scan between l (b ∷ t)
+  unfolding scan classOf
+  comment-off h = rw h
+
+  word-on : (w : List ℕ) → classOf b ≡ Class.Other → scan (within w) l (b ∷ t) ≡ scan (within (w ++ (b ∷ []))) l t
+  unfolding scan
+  word-on w h = rw (h, scan)
+
+  word-newline : (w : List ℕ) → classOf b ≡ Class.Newline → scan (within w) l (b ∷ t) ≡ word l w (scan between l (b ∷ t))
+  unfolding scan
+  word-newline w h = rw (h, scan)
+
+  word-hash : (w : List ℕ) → classOf b ≡ Class.Hash → scan (within w) l (b ∷ t) ≡ word l w (scan between l (b ∷ t))
+  unfolding scan
+  word-hash w h = rw (h, scan)
+
+  word-blank : (w : List ℕ) → classOf b ≡ Class.Blank → scan (within w) l (b ∷ t) ≡ word l w (scan between l (b ∷ t))
+  unfolding scan
+  word-blank w h = rw (h, scan)
+
+-- a scan in a word gives a word
+pub a-word : (t w : List ℕ) (l : ℕ) → (v : List ℕ) × (u : Tokens) × (scan (within w) l t ≡ word l v u)
+unfolding scan
+a-word [] w l = (w, over l, refl)
+a-word (b ∷ t) w l = go (classOf b) refl (a-word t (w ++ (b ∷ [])) l)
+  where
+    go : (c : Class) → classOf b ≡ c → ((v : List ℕ) × (u : Tokens) × (scan (within (w ++ (b ∷ []))) l t ≡ word l v u)) → (v : List ℕ) × (u : Tokens) × (scan (within w) l (b ∷ t) ≡ word l v u)
+    go Class.Newline e r = (w, scan between l (b ∷ t), word-newline b t l w e)
+    go Class.Hash e r = (w, scan between l (b ∷ t), word-hash b t l w e)
+    go Class.Blank e r = (w, scan between l (b ∷ t), word-blank b t l w e)
+    go Class.Other e r = (r .0, r .1, word-on b t l w e ∙ r .2)
+
+-- at a position before the end
+module _ (text : List ℕ) (at : ℕ) (h : at < length text) where
+  here : drop at text ≡ getD text at 0 ∷ drop (at + 1) text
+  here = rw (add-one at) (drop-cons text at 0 h)
+
+  pub rest-newline : (l : ℕ) → classOf (getD text at 0) ≡ Class.Newline → rest text at l ≡ rest text (at + 1) (l + 1)
+  unfolding rest
+  rest-newline l c = ap (scan between l) here ∙ step-newline (getD text at 0) (drop (at + 1) text) l c ∙ rw (add-one l)
+
+  pub rest-blank : (l : ℕ) → classOf (getD text at 0) ≡ Class.Blank → rest text at l ≡ rest text (at + 1) l
+  unfolding rest
+  rest-blank l c = ap (scan between l) here ∙ step-blank (getD text at 0) (drop (at + 1) text) l c
+
+  pub rest-hash : (l : ℕ) → classOf (getD text at 0) ≡ Class.Hash → rest text at l ≡ scan comment l (drop (at + 1) text)
+  unfolding rest
+  rest-hash l c = ap (scan between l) here ∙ step-hash (getD text at 0) (drop (at + 1) text) l c
+
+  pub rest-word : (l : ℕ) → classOf (getD text at 0) ≡ Class.Other → rest text at l ≡ scan (within []) l (drop at text)
+  unfolding rest
+  rest-word l c =
+      ap (scan between l) here ∙ step-other (getD text at 0) (drop (at + 1) text) l c ∙ sym (ap (scan (within []) l) here)
+
+  pub comment-turn : (l : ℕ) → (getD text at 0 ≡ 10 → ⊥) → scan comment l (drop at text) ≡ scan comment l (drop (at + 1) text)
+  comment-turn l c = ap (scan comment l) here ∙ comment-on (getD text at 0) (drop (at + 1) text) l c
+
+  pub comment-stop : (l : ℕ) → getD text at 0 ≡ 10 → scan comment l (drop at text) ≡ rest text at l
+  unfolding rest
+  comment-stop l c = ap (scan comment l) here ∙ comment-off (getD text at 0) (drop (at + 1) text) l c ∙ sym (ap (scan between l) here)
+
+  stop : (l : ℕ) (w : List ℕ) → scan (within w) l (getD text at 0 ∷ drop (at + 1) text) ≡ word l w (scan between l (getD text at 0 ∷ drop (at + 1) text)) → scan (within w) l (drop at text) ≡ word l w (rest text at l)
+  unfolding rest
+  stop l w e = ap (scan (within w) l) here ∙ e ∙ sym (ap (λ (r : List ℕ). word l w (scan between l r)) here)
+
+  pub newline-stop : (l : ℕ) (w : List ℕ) → classOf (getD text at 0) ≡ Class.Newline → scan (within w) l (drop at text) ≡ word l w (rest text at l)
+  newline-stop l w c = stop l w (word-newline (getD text at 0) (drop (at + 1) text) l w c)
+
+  pub hash-stop : (l : ℕ) (w : List ℕ) → classOf (getD text at 0) ≡ Class.Hash → scan (within w) l (drop at text) ≡ word l w (rest text at l)
+  hash-stop l w c = stop l w (word-hash (getD text at 0) (drop (at + 1) text) l w c)
+
+  pub blank-stop : (l : ℕ) (w : List ℕ) → classOf (getD text at 0) ≡ Class.Blank → scan (within w) l (drop at text) ≡ word l w (rest text at l)
+  blank-stop l w c = stop l w (word-blank (getD text at 0) (drop (at + 1) text) l w c)
+
+  -- one byte more of a word that began at a
+  pub word-turn : (a l : ℕ) → a ≤ at → classOf (getD text at 0) ≡ Class.Other
+      → scan (within (take (at - a) (drop a text))) l (drop at text) ≡ scan (within (take (at + 1 - a) (drop a text))) l (drop (at + 1) text)
+  word-turn a l g c =
+      let e : at + 1 - a ≡ suc (at - a) = omega arith in
+      let f : a + (at - a) ≡ at = omega arith in
+      let m : getD (drop a text) (at - a) 0 ≡ getD text at 0 = getD-drop a text (at - a) 0 ∙ ap (λ (k : ℕ). getD text k 0) f in
+      ap (scan (within (take (at - a) (drop a text))) l) here
+      ∙ word-on (getD text at 0) (drop (at + 1) text) l (take (at - a) (drop a text)) c
+      ∙ ap (λ (w : List ℕ). scan (within w) l (drop (at + 1) text))
+      (ap (λ (x : ℕ). take (at - a) (drop a text) ++ (x ∷ [])) (sym m)
+      ∙ sym (take-suc (drop a text) (at - a) 0 (omega (arith, length-drop a text)))
+      ∙ ap (λ (k : ℕ). take k (drop a text)) (sym e))
+
+-- past the end
+module _ (text : List ℕ) (at : ℕ) (h : length text ≤ at) where
+  none : drop at text ≡ []
+  none = drop-of-length-le text h
+
+  pub rest-over : (l : ℕ) → rest text at l ≡ over l
+  unfolding rest scan
+  rest-over l = ap (scan between l) none
+
+  pub comment-over : (l : ℕ) → scan comment l (drop at text) ≡ rest text at l
+  unfolding scan
+  comment-over l = ap (scan comment l) none ∙ sym (rest-over l)
+
+  pub word-over : (l : ℕ) (w : List ℕ) → scan (within w) l (drop at text) ≡ word l w (rest text at l)
+  unfolding scan
+  word-over l w = ap (scan (within w) l) none ∙ ap (word l w) (sym (rest-over l))
