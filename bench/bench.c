@@ -1,0 +1,168 @@
+// Times the basis call inside one process: the plain C program and, if built with -DENGINE, the engine.
+//
+//   bench jobs            reads jobs (p n s, type, series; numbers separated by spaces) and prints the words
+//   bench largest ROUNDS  the largest job, types all 0 and types spread: microseconds a call, median of the rounds
+//   bench sweep ROUNDS    n = 2, 4, 8 and s up to 255: the same, with the products formed and their bound
+#define _POSIX_C_SOURCE 200809L
+#include "plain.h"
+
+#include <inttypes.h>
+#include <stdio.h>
+#include <stdlib.h>
+#include <string.h>
+#include <time.h>
+
+#ifdef ENGINE
+#include "relations.h"
+#endif
+
+#define LARGEST 2147483647u
+
+typedef uint32_t basis_call(uint32_t p, uint32_t n, uint32_t s,
+                            const uint32_t *type, size_t type_len,
+                            const uint32_t *series, size_t series_len,
+                            uint32_t *basis, size_t basis_len,
+                            uint32_t *answer, size_t answer_len);
+
+static const struct {
+    const char *name;
+    basis_call *call;
+} ways[] = {
+    {"plain", plain_basis},
+#ifdef ENGINE
+    {"engine", relations_basis},
+#endif
+};
+#define WAYS (sizeof ways / sizeof *ways)
+
+static uint32_t type[8], series[2040], basis[WAYS][16384], answer[WAYS][2];
+
+static uint32_t call(size_t way, uint32_t p, uint32_t n, uint32_t s)
+{
+    return ways[way].call(p, n, s, type, n, series, n * s, basis[way], n * n * (s + 1), answer[way], 2);
+}
+
+// A random job (the generator of docs/REFERENCE.md); spread types run over 0..255.
+static void draw(uint32_t p, uint32_t n, uint32_t s, int spread, uint64_t seed)
+{
+    uint64_t x = (seed + 1) * 2330089441u % 140737488355213u;
+    for (uint32_t i = 0; i < n; i++)
+        type[i] = spread && n > 1 ? i * 255 / (n - 1) : 0;
+    for (uint32_t t = 0; t < n * s; t++) {
+        x = x * 48271 % 140737488355213u;
+        series[t] = (uint32_t)(x % p);
+    }
+}
+
+// Processor time of this process, so that other work on the machine counts less.
+static double microseconds(void)
+{
+    struct timespec t;
+    clock_gettime(CLOCK_PROCESS_CPUTIME_ID, &t);
+    return 1e6 * (double)t.tv_sec + 1e-3 * (double)t.tv_nsec;
+}
+
+static int by_size(const void *a, const void *b)
+{
+    double x = *(const double *)a, y = *(const double *)b;
+    return (x > y) - (x < y);
+}
+
+// Median time of a call over the rounds, the ways in turn; every round's job is another one.
+static void measure(uint32_t p, uint32_t n, uint32_t s, int spread, int rounds, double *median)
+{
+    double *times[WAYS];
+    for (size_t way = 0; way < WAYS; way++)
+        times[way] = malloc((size_t)rounds * sizeof(double));
+    for (int round = 0; round < rounds; round++) {
+        draw(p, n, s, spread, (uint64_t)round);
+        for (size_t way = 0; way < WAYS; way++) {
+            double start = microseconds();
+            uint32_t status = call(way, p, n, s);
+            times[way][round] = microseconds() - start;
+            if (status != 0) {
+                fprintf(stderr, "%s: refused %" PRIu32 "\n", ways[way].name, status);
+                exit(1);
+            }
+            if (memcmp(basis[way], basis[0], n * n * (s + 1) * 4) != 0 || memcmp(answer[way], answer[0], 8) != 0) {
+                fprintf(stderr, "%s and %s differ at n = %" PRIu32 ", s = %" PRIu32 "\n", ways[way].name, ways[0].name, n, s);
+                exit(1);
+            }
+        }
+    }
+    for (size_t way = 0; way < WAYS; way++) {
+        qsort(times[way], (size_t)rounds, sizeof(double), by_size);
+        median[way] = times[way][rounds / 2];
+        free(times[way]);
+    }
+}
+
+static uint64_t bound(uint64_t n, uint64_t s)
+{
+    return s == 0 ? 0 : (3 * n - 2) * (s * (s - 1) / 2 + n * s) + (n - 1) * s;
+}
+
+// One line: what, microseconds of each way, the ratio, the products of the first round's job and their bound.
+static void line(uint32_t n, uint32_t s, int spread, int rounds)
+{
+    double median[WAYS];
+    measure(LARGEST, n, s, spread, rounds, median);
+    draw(LARGEST, n, s, spread, 0);
+    plain_products = 0;
+    call(0, LARGEST, n, s);
+    printf("%" PRIu32 " %" PRIu32 " %s", n, s, spread ? "spread" : "zero");
+    for (size_t way = 0; way < WAYS; way++)
+        printf(" %s %.1f", ways[way].name, median[way]);
+    if (WAYS > 1)
+        printf(" ratio %.3f", median[WAYS - 1] / median[0]);
+#ifdef COUNT_PRODUCTS
+    printf(" products %" PRIu64 " bound %" PRIu64, plain_products, bound(n, s));
+#else
+    (void)bound;
+#endif
+    printf("\n");
+}
+
+static int jobs(void)
+{
+    uint32_t p, n, s;
+    while (scanf("%" SCNu32 "%" SCNu32 "%" SCNu32, &p, &n, &s) == 3) {
+        for (uint32_t i = 0; i < n; i++)
+            if (scanf("%" SCNu32, &type[i]) != 1)
+                return 1;
+        for (uint32_t t = 0; t < n * s; t++)
+            if (scanf("%" SCNu32, &series[t]) != 1)
+                return 1;
+        for (size_t way = 0; way < WAYS; way++) {
+            plain_products = 0;
+            uint32_t status = call(way, p, n, s);
+            if (plain_products > bound(n, s))
+                return 1;
+            printf("%" PRIu32 " %" PRIu32 " %" PRIu32, status, answer[way][0], answer[way][1]);
+            for (uint32_t t = 0; t < n * n * (s + 1); t++)
+                printf(" %" PRIu32, basis[way][t]);
+            printf("\n");
+        }
+    }
+    return 0;
+}
+
+int main(int argc, char **argv)
+{
+    if (argc == 2 && strcmp(argv[1], "jobs") == 0)
+        return jobs();
+    int rounds = argc == 3 ? atoi(argv[2]) : 0;
+    if (rounds > 0 && strcmp(argv[1], "largest") == 0) {
+        line(8, 255, 0, rounds);
+        line(8, 255, 1, rounds);
+        return 0;
+    }
+    if (rounds > 0 && strcmp(argv[1], "sweep") == 0) {
+        for (uint32_t n = 2; n <= 8; n *= 2)
+            for (uint32_t s = 15; s <= 255; s += 16)
+                line(n, s, 0, rounds);
+        return 0;
+    }
+    fprintf(stderr, "bench jobs | largest ROUNDS | sweep ROUNDS\n");
+    return 2;
+}

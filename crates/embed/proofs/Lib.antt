@@ -1,0 +1,7 @@
+-- Lemmas and theorems of the exported calls.
+pub mod Words
+pub mod Given
+pub mod RowAt
+pub mod Text
+pub mod Unique
+pub mod Parsing

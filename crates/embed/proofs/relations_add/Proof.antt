@@ -1,0 +1,24 @@
+-- An answer slice of another length gives 4; else the wrapped call's outcome is told.
+use Rattle.embed.proofs.Given.{other-length, given}
+use borrow.Author.Needs.{needs}
+use Rattle.embed.proofs.relations_add.Statement.{statement}
+use Rattle.embed.proofs.relations_add.Tie as tie
+
+returns : tie.Need-returns
+returns c = other-length _ _ _ _ (c .if1 .taken) tt
+
+add-requires : tie.Need-add-requires
+add-requires c κs = search needs
+
+tell-residue-requires : tie.Need-tell-residue-requires
+tell-residue-requires c κs = search needs
+
+same-length : tie.Need-same-length
+same-length c = search needs
+
+returns-2 : tie.Need-returns-2
+returns-2 c = given _ _ _ _ _ _ _ (c .before .before .before .before .before .if1 .left) (c .before .before .before .before .add .ensures) (c .before .before .tell-residue .ensures)
+
+pub relations-add-spec : {M : Type 1} → statement M
+relations-add-spec =
+    tie.close (tie.spec returns add-requires tell-residue-requires same-length returns-2)

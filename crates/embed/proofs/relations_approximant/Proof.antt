@@ -1,0 +1,29 @@
+-- An answer slice of another length gives 4; else the wrapped call's outcome is told.
+use mathlib.Core.Path.{refl}
+use Rattle.embed.proofs.Given.{other-length, given}
+use borrow.Author.Needs.{needs}
+use Rattle.embed.proofs.relations_approximant.Statement.{statement}
+use Rattle.embed.proofs.relations_approximant.Tie as tie
+
+returns : tie.Need-returns
+returns c = other-length _ _ _ _ (c .if1 .taken) refl
+
+approximant-requires : tie.Need-approximant-requires
+approximant-requires c κs = search needs
+
+tell-basis-requires : tie.Need-tell-basis-requires
+tell-basis-requires c κs = search needs
+
+same-length : tie.Need-same-length
+same-length c = search needs
+
+same-length-2 : tie.Need-same-length-2
+same-length-2 c = search needs
+
+returns-2 : tie.Need-returns-2
+returns-2 c = given _ _ _ _ _ _ _ (c .before .before .before .before .before .before .before .before .if1 .left) (c .before .before .before .before .before .before .approximant .ensures) (c .before .before .tell-basis .ensures)
+
+pub relations-approximant-spec : {M : Type 1} → statement M
+relations-approximant-spec =
+    tie.close
+    (tie.spec returns approximant-requires tell-basis-requires same-length same-length-2 returns-2)

@@ -1,0 +1,355 @@
+// The engine for programs that are not written in Rattle: one exported function for each public call, on numbers and lent slices.
+// Each answers a status word, 0 or the refusal's number, and writes the values of a result to a lent answer slice. None has a premise.
+ghost use mathlib.Core.Path.{_≡_};
+ghost use mathlib.Core.List.{[], _∷_};
+ghost use Prim.Native.Nat.{_+_, _*_};
+ghost use lib.ListN.{length};
+ghost use Rattle.field.specs.Calls.{fieldSays, residueSays, inverseSays, MakeOutcome, AddOutcome, MultiplyOutcome, InvertOutcome};
+ghost use Rattle.engine.specs.Answers.{basisSays, pairSays};
+ghost use Rattle.engine.specs.Basis.{BasisOutcome};
+ghost use Rattle.engine.specs.Approximant.{ApproximantOutcome};
+ghost use Rattle.engine.specs.Pair.{PairOutcome};
+ghost use Rattle.jobfile.specs.Answers.{jobSays, writeSays};
+ghost use Rattle.jobfile.specs.Outcomes.{ReadOutcome, WriteOutcome};
+ghost use Rattle.jobtext.specs.Job.{jobOf};
+ghost use Rattle.jobreport.specs.Printed.{PrintOutcome};
+ghost use Rattle.report.specs.Calls.{textSays, BasisOutcome as BasisTextOutcome, RefusalOutcome as RefusalTextOutcome};
+ghost use Rattle.embed.specs.Parsing.{slipNumber, parsedSays, faultLine, ParseOutcome};
+ghost use Rattle.embed.specs.TextFits.{TextFits};
+ghost use Rattle.embed.specs.Status.{statusOf, wordsLeft};
+ghost use Rattle.embed.specs.Given.{Told, Given};
+ghost use Rattle.embed.specs.RowAt.{RowAt, RowSaid};
+use engine::BasisAnswer;
+use engine::PairAnswer;
+use field::Field;
+use field::FieldAnswer;
+use field::InverseAnswer;
+use field::ResidueAnswer;
+use jobfile::JobAnswer;
+use jobfile::WriteAnswer;
+use jobtext::Parsed;
+use jobtext::Slip;
+use report::TextAnswer;
+
+// The status of the inverse of zero, which has no number.
+pub const NO_INVERSE: u32 = 256;
+
+// The status of an answer slice of another length than stated.
+const ANSWER_LENGTH: u32 = 4;
+
+fn tell_residue(r: ResidueAnswer, answer: &mut [u32]) -> u32
+    requires { ⌜ length (now answer) ≡ 1 ⌝ }
+    ensures { λ k. ⌜ (k ≡ statusOf (residueSays r)) × (now (answer .exit) ≡ wordsLeft (residueSays r) (now (answer .entry))) ⌝ }
+{
+    match r {
+        ResidueAnswer::Is(residue) => {
+            answer[0] = residue;
+            0
+        }
+        ResidueAnswer::Refused(k) => k,
+    }
+}
+
+fn tell_inverse(r: InverseAnswer, answer: &mut [u32]) -> u32
+    requires { ⌜ length (now answer) ≡ 1 ⌝ }
+    ensures { λ k. ⌜ (k ≡ statusOf (inverseSays r)) × (now (answer .exit) ≡ wordsLeft (inverseSays r) (now (answer .entry))) ⌝ }
+{
+    match r {
+        InverseAnswer::Is(inverse) => {
+            answer[0] = inverse;
+            0
+        }
+        InverseAnswer::Refused(k) => k,
+        InverseAnswer::OfZero => NO_INVERSE,
+    }
+}
+
+fn tell_basis(r: BasisAnswer, answer: &mut [u32]) -> u32
+    requires { ⌜ length (now answer) ≡ 2 ⌝ }
+    ensures { λ k. ⌜ (k ≡ statusOf (basisSays r)) × (now (answer .exit) ≡ wordsLeft (basisSays r) (now (answer .entry))) ⌝ }
+{
+    match r {
+        BasisAnswer::Found { least, count } => {
+            answer[0] = least;
+            answer[1] = count;
+            0
+        }
+        BasisAnswer::Refused(k) => k,
+    }
+}
+
+fn tell_job(r: JobAnswer, answer: &mut [u32]) -> u32
+    requires { ⌜ length (now answer) ≡ 3 ⌝ }
+    ensures { λ k. ⌜ (k ≡ statusOf (jobSays r)) × (now (answer .exit) ≡ wordsLeft (jobSays r) (now (answer .entry))) ⌝ }
+{
+    match r {
+        JobAnswer::Job { p, n, s } => {
+            answer[0] = p;
+            answer[1] = n;
+            answer[2] = s;
+            0
+        }
+        JobAnswer::Refused(k) => k,
+    }
+}
+
+fn tell_write(r: WriteAnswer, answer: &mut [u32]) -> u32
+    requires { ⌜ length (now answer) ≡ 1 ⌝ }
+    ensures { λ k. ⌜ (k ≡ statusOf (writeSays r)) × (now (answer .exit) ≡ wordsLeft (writeSays r) (now (answer .entry))) ⌝ }
+{
+    match r {
+        WriteAnswer::Blocks(blocks) => {
+            answer[0] = blocks;
+            0
+        }
+        WriteAnswer::Refused(k) => k,
+    }
+}
+
+fn tell_text(r: TextAnswer, answer: &mut [u32]) -> u32
+    requires { ⌜ (length (now answer) ≡ 1) × TextFits r ⌝ }
+    ensures { λ k. ⌜ (k ≡ statusOf (textSays r)) × (now (answer .exit) ≡ wordsLeft (textSays r) (now (answer .entry))) ⌝ }
+{
+    match r {
+        TextAnswer::Length(bytes) => {
+            answer[0] = bytes as u32;
+            0
+        }
+        TextAnswer::Refused(k) => k,
+    }
+}
+
+// A slip of the text that has no number has a status of its own.
+fn slip_status(slip: Slip) -> u32
+    ensures { λ k. ⌜ k ≡ slipNumber slip ⌝ }
+{
+    match slip {
+        Slip::Modulus => 1,
+        Slip::Count => 2,
+        Slip::Order => 3,
+        Slip::Entry => 5,
+        Slip::Coefficient => 6,
+        Slip::NotNumber => 257,
+        Slip::TooLarge => 258,
+        Slip::EndsEarly => 259,
+        Slip::TooMany => 260,
+    }
+}
+
+fn tell_parsed(r: Parsed, answer: &mut [u32]) -> u32
+    requires { ⌜ length (now answer) ≡ 3 ⌝ }
+    ensures { λ k. ⌜ (k ≡ statusOf (parsedSays r)) × (now (answer .exit) ≡ wordsLeft (parsedSays r) (now (answer .entry))) ⌝ }
+{
+    match r {
+        Parsed::Job { p, n, s } => {
+            answer[0] = p;
+            answer[1] = n;
+            answer[2] = s;
+            0
+        }
+        Parsed::Wrong { slip, line: _ } => slip_status(slip),
+    }
+}
+
+#[no_mangle]
+pub extern "C" fn relations_modulus(p: u32) -> u32
+    ensures { λ k. ⌜ Told (MakeOutcome p) k ⌝ }
+{
+    match Field::make(p) {
+        FieldAnswer::Is(_) => 0,
+        FieldAnswer::Refused(k) => k,
+    }
+}
+
+#[no_mangle]
+pub extern "C" fn relations_add(p: u32, a: u32, b: u32, answer: &mut [u32]) -> u32
+    ensures { λ k. ⌜ Given 1 (AddOutcome p a b) Unit (now (answer .entry)) k (now (answer .exit)) ⌝ }
+{
+    if answer.len() != 1 {
+        return ANSWER_LENGTH;
+    }
+    tell_residue(Field::add(p, a, b), answer)
+}
+
+#[no_mangle]
+pub extern "C" fn relations_multiply(p: u32, a: u32, b: u32, answer: &mut [u32]) -> u32
+    ensures { λ k. ⌜ Given 1 (MultiplyOutcome p a b) Unit (now (answer .entry)) k (now (answer .exit)) ⌝ }
+{
+    if answer.len() != 1 {
+        return ANSWER_LENGTH;
+    }
+    tell_residue(Field::multiply(p, a, b), answer)
+}
+
+#[no_mangle]
+pub extern "C" fn relations_invert(p: u32, a: u32, answer: &mut [u32]) -> u32
+    ensures { λ k. ⌜ Given 1 (InvertOutcome p a) Unit (now (answer .entry)) k (now (answer .exit)) ⌝ }
+{
+    if answer.len() != 1 {
+        return ANSWER_LENGTH;
+    }
+    tell_inverse(Field::invert(p, a), answer)
+}
+
+#[no_mangle]
+pub extern "C" fn relations_basis(
+    p: u32,
+    n: u32,
+    s: u32,
+    d: &[u32],
+    series: &[u32],
+    basis: &mut [u32],
+    answer: &mut [u32],
+) -> u32
+    ensures { λ k. ⌜ Given 2 (λ said. BasisOutcome p n s (now (d .entry)) (now (series .entry)) (now (basis .entry)) said (now (basis .exit))) (now (basis .exit) ≡ now (basis .entry)) (now (answer .entry)) k (now (answer .exit)) ⌝ }
+{
+    if answer.len() != 2 {
+        return ANSWER_LENGTH;
+    }
+    tell_basis(engine::basis(p, n, s, d, series, basis), answer)
+}
+
+#[no_mangle]
+pub extern "C" fn relations_approximant(
+    p: u32,
+    n: u32,
+    d: &[u32],
+    series: &[u32],
+    basis: &mut [u32],
+    answer: &mut [u32],
+) -> u32
+    ensures { λ k. ⌜ Given 2 (λ said. ApproximantOutcome p n (now (d .entry)) (now (series .entry)) (now (basis .entry)) said (now (basis .exit))) (now (basis .exit) ≡ now (basis .entry)) (now (answer .entry)) k (now (answer .exit)) ⌝ }
+{
+    if answer.len() != 2 {
+        return ANSWER_LENGTH;
+    }
+    tell_basis(engine::approximant(p, n, d, series, basis), answer)
+}
+
+#[no_mangle]
+pub extern "C" fn relations_pair(p: u32, k: u32, g: &[u32], r: &mut [u32], t: &mut [u32]) -> u32
+    ensures { λ j. ⌜ Told (λ said. PairOutcome p k (now (g .entry)) (now (r .entry)) (now (t .entry)) said (now (r .exit)) (now (t .exit))) j ⌝ }
+{
+    match engine::pair(p, k, g, r, t) {
+        PairAnswer::Written => 0,
+        PairAnswer::Refused(j) => j,
+    }
+}
+
+#[no_mangle]
+pub extern "C" fn relations_row(n: u32, s: u32, i: u32, basis: &[u32], answer: &mut [u32]) -> u32
+    ensures { λ k. ⌜ Given 2 (RowSaid (now (basis .entry)) n s i) Unit (now (answer .entry)) k (now (answer .exit)) ⌝ }
+{
+    if answer.len() != 2 {
+        return ANSWER_LENGTH;
+    }
+    let count = engine::row_view(basis, n, s, i).len();
+    let start = if count == 0 {
+        0
+    } else {
+        (i as usize - 1) * count
+    };
+    answer[0] = start as u32;
+    answer[1] = count as u32;
+    0
+}
+
+#[no_mangle]
+pub extern "C" fn relations_read(
+    file: &[u8],
+    d: &mut [u32],
+    series: &mut [u32],
+    answer: &mut [u32],
+) -> u32
+    ensures { λ k. ⌜ Given 3 (λ said. ReadOutcome (now (file .entry)) (now (d .entry)) (now (series .entry)) said (now (d .exit)) (now (series .exit))) ((now (d .exit) ≡ now (d .entry)) × (now (series .exit) ≡ now (series .entry))) (now (answer .entry)) k (now (answer .exit)) ⌝ }
+{
+    if answer.len() != 3 {
+        return ANSWER_LENGTH;
+    }
+    tell_job(jobfile::read_job(file, d, series), answer)
+}
+
+#[no_mangle]
+pub extern "C" fn relations_write(
+    p: u32,
+    n: u32,
+    s: u32,
+    d: &[u32],
+    series: &[u32],
+    file: &mut [u8],
+    answer: &mut [u32],
+) -> u32
+    ensures { λ k. ⌜ Given 1 (λ said. WriteOutcome p n s (now (d .entry)) (now (series .entry)) (now (file .entry)) said (now (file .exit))) (now (file .exit) ≡ now (file .entry)) (now (answer .entry)) k (now (answer .exit)) ⌝ }
+{
+    if answer.len() != 1 {
+        return ANSWER_LENGTH;
+    }
+    tell_write(jobfile::write_job(p, n, s, d, series, file), answer)
+}
+
+#[no_mangle]
+pub extern "C" fn relations_text(
+    p: u32,
+    n: u32,
+    s: u32,
+    d: &[u32],
+    basis: &[u32],
+    least: u32,
+    text: &mut [u8],
+    answer: &mut [u32],
+) -> u32
+    ensures { λ k. ⌜ Given 1 (BasisTextOutcome p n s (now (d .entry)) (now (basis .entry)) least (now (text .entry)) (now (text .exit))) (now (text .exit) ≡ now (text .entry)) (now (answer .entry)) k (now (answer .exit)) ⌝ }
+{
+    if answer.len() != 1 {
+        return ANSWER_LENGTH;
+    }
+    tell_text(report::write_basis(p, n, s, d, basis, least, text), answer)
+}
+
+#[no_mangle]
+pub extern "C" fn relations_refused(number: u32, text: &mut [u8], answer: &mut [u32]) -> u32
+    ensures { λ k. ⌜ Given 1 (RefusalTextOutcome number (now (text .entry)) (now (text .exit))) (now (text .exit) ≡ now (text .entry)) (now (answer .entry)) k (now (answer .exit)) ⌝ }
+{
+    if answer.len() != 1 {
+        return ANSWER_LENGTH;
+    }
+    tell_text(report::write_refusal(number, text), answer)
+}
+
+#[no_mangle]
+pub extern "C" fn relations_print(file: &[u8], text: &mut [u8], answer: &mut [u32]) -> u32
+    ensures { λ k. ⌜ Given 1 (PrintOutcome (now (file .entry)) (now (text .entry)) (now (text .exit))) (now (text .exit) ≡ now (text .entry)) (now (answer .entry)) k (now (answer .exit)) ⌝ }
+{
+    if answer.len() != 1 {
+        return ANSWER_LENGTH;
+    }
+    tell_text(jobreport::print_job(file, text), answer)
+}
+
+#[no_mangle]
+pub extern "C" fn relations_parse(
+    text: &[u8],
+    d: &mut [u32; 8],
+    series: &mut [u32; 2040],
+    answer: &mut [u32],
+) -> u32
+    ensures { λ k. ⌜ Given 3 (ParseOutcome (now (text .entry)) (now (d .entry)) (now (series .entry)) (now (d .exit)) (now (series .exit))) ((now (d .exit) ≡ now (d .entry)) × (now (series .exit) ≡ now (series .entry))) (now (answer .entry)) k (now (answer .exit)) ⌝ }
+{
+    if answer.len() != 3 {
+        return ANSWER_LENGTH;
+    }
+    tell_parsed(jobtext::parse(text, d, series), answer)
+}
+
+// The line, counted from 1, of what is wrong with a text job; 0 where nothing is.
+#[no_mangle]
+pub extern "C" fn relations_parse_line(text: &[u8]) -> usize
+    ensures { λ l. ⌜ l ≡ faultLine (jobOf (now (text .entry))) ⌝ }
+{
+    let mut d = [0u32; 8];
+    let mut series = [0u32; 2040];
+    match jobtext::parse(text, &mut d, &mut series) {
+        Parsed::Job { p: _, n: _, s: _ } => 0,
+        Parsed::Wrong { slip: _, line } => line,
+    }
+}
