@@ -44,11 +44,6 @@ pub dot-mod : (p n : ℕ) (P F : Vect) (k : ℕ) → dot n (λ i t. P i t % p) F
 unfolding dot conv
 dot-mod p n P F k = sum-cong p n _ _ (λ i hi. sum-cong p (suc k) _ _ (λ t ht. mod-mul-left p (P i t) (F i (k - t))))
 
-pub dot-series : (p n : ℕ) (P F G : Vect) (k : ℕ) → ((i t : ℕ) → i < n → t ≤ k → F i t % p ≡ G i t % p) → dot n P F k % p ≡ dot n P G k % p
-unfolding dot conv
-dot-series p n P F G k h = sum-cong p n _ _ (λ i hi. sum-cong p (suc k) _ _ (λ t ht.
-    sym (mod-mul-right p (P i t) (F i (k - t))) ∙ rw (h i (k - t) hi (omega arith)) (mod-mul-right p (P i t) (G i (k - t)))))
-
 -- where all series vanish as far as k, so does each product
 pub dot-vanish : (p n : ℕ) (F P : Vect) (k : ℕ) → ((t : ℕ) → t ≤ k → (i : ℕ) → i < n → F i t % p ≡ 0) → dot n P F k % p ≡ 0
 unfolding dot conv

@@ -139,16 +139,6 @@ module _ {p n : ℕ} {b : ℕ → ℕ} {F : Vect} {j : ℕ} {Q : ℕ → Vect} {
       unfolding addMultiple
       cleared-column-i l hl li t g = zero-addMultiple p (m l) _ _ (rb .reduced .clear l i hl hi li t (omega arith)) (rb .basis .lead i hi .above i t hi (weight-lt n b i (e i) t (omega arith) g))
 
-      -- the new rows are no longer than the pivots
-      pub cleared-short : (l k t : ℕ) → l < n → k < n → l ≢ i → e k < t → R l k t ≡ 0
-      cleared-short l k t hl hk li g = elim (ℕ-discrete l k) [
-        | yes q ↦ cleared-above l hl k t hk (subst (λ (x : ℕ). weight n b x (e x) < weight n b k t) (sym q) (weight-lt n b k (e k) t (omega arith) g))
-        | no nq ↦ elim (ℕ-discrete k i) [
-          | yes q ↦ subst (λ (x : ℕ). e x < t → R l x t ≡ 0) (sym q) (cleared-column-i l hl li t) g
-          | no ki ↦ cleared-column l k hl hk nq ki t (omega arith)
-        ]
-      ]
-
       module _ {a : ℕ → ℕ} (cl : ClearsColumns p n Q e i a) where
         abbrev T : Vect
         T = movedRow p n m a Q i
@@ -215,22 +205,6 @@ module _ {p n : ℕ} {b : ℕ → ℕ} {F : Vect} {j : ℕ} {Q : ℕ → Vect} {
               | yes q ↦ rw (q, cl .own) (zero-mul _)
               | no nq ↦ rw (cleared-column l k hl hk ne ki t g) (mul-zero _)
             ]
-
-        pub moved-short : (k t : ℕ) → k < n → suc (e k) < t → T k t ≡ 0
-        moved-short k t hk g = elim (ℕ-discrete k i) [
-          | yes q ↦ moved-above k t hk (subst (λ (x : ℕ). weight n b x (suc (e x)) < weight n b k t) q (weight-lt n b k (suc (e k)) t (omega arith) g))
-          | no ki ↦ moved-column k hk ki t (omega arith)
-        ]
-
-        -- for a loop that takes the multiples away one by one: the coefficient to kill next is still that of X * Q i
-        pub moved-partial : (k : ℕ) → k < n → k ≢ i → (N : ℕ) → N ≤ k → addMultiples p N a R (timesX (Q i)) k (e k) ≡ timesX (Q i) k (e k)
-        unfolding addMultiples
-        moved-partial k hk ki N g =
-            let y : sumTo N (λ l. a l * R l k (e k)) ≡ 0 = sum-all-zero N _ (λ l hl. elim (ℕ-discrete l i) [
-              | yes q ↦ rw (q, cl .own) (zero-mul _)
-              | no nq ↦ rw (cleared-column l k (omega arith) hk (omega arith) ki (e k) (omega arith)) (mul-zero _)
-            ]) in
-            rw (y, add-zero) (mod-eq-of-lt (shifted-vec .small k (e k)))
 
         module _ {N : ℕ → Vect} {e′ : ℕ → ℕ} (st : Stepped p n m a Q e i N e′) where
           each : (Z : ℕ → Vect → ℕ → Type 0) → Z i T (suc (e i)) → ((l : ℕ) → l < n → l ≢ i → Z l (R l) (e l)) → (l : ℕ) → l < n → Z l (N l) (e′ l)

@@ -7,7 +7,7 @@ use mathlib.Core.Path.{_≡_, refl, ap, sym, _∙_, fun-ext, subst}
 use mathlib.Core.Logic.{_≢_}
 use Prim.Native.Nat.{ℕ, zero, suc, _+_, _*_, _%_, _≤_, _<_}
 use native.Mathlib.Nat.{add-mod, mod-mod, mod-add-mod, mul-zero, zero-mul, one-mul, add-zero, zero-add, add-assoc, mod-eq-of-lt, mod-lt, zero-mod, sub-zero}
-use native.Mathlib.Decide.{ℕ-discrete, decLt}
+use native.Mathlib.Decide.{ℕ-discrete}
 use native.Mathlib.Omega.{arith}
 use Rattle.field.proofs.Residue.{mod-mul-right, neg, neg-add, back}
 use Rattle.relation.specs.Sum.{sumTo}
@@ -15,7 +15,7 @@ use Rattle.relation.specs.Product.{conv, dot}
 use Rattle.relation.specs.Vector.{Vect, IsVec}
 use Rattle.relation.specs.Relation.{VanishesTo}
 use Rattle.relation.proofs.Sum.{sum-ext, sum-single, sum-all-zero}
-use Rattle.relation.proofs.Product.{dot-add, dot-scale, dot-mod, dot-zero, dot-series, conv-shift}
+use Rattle.relation.proofs.Product.{dot-add, dot-scale, dot-mod, dot-zero, conv-shift}
 
 -- P + c * S
 unfoldable pub addMultiple : ℕ → ℕ → Vect → Vect → Vect
@@ -131,17 +131,6 @@ pub addMultiple-back : (p n c : ℕ) (S P : Vect) → 0 < p → IsVec p n P → 
 unfolding addMultiple
 addMultiple-back p n c S P hp h = fun-ext λ i. fun-ext λ k. back p (P i k) c (neg p c) (S i k) (neg-add p c hp) (h .small i k)
 
--- two vectors that agree where an array of n times K cells has them
-pub vec-same : (p n K : ℕ) (P R : Vect) → IsVec p n P → IsVec p n R → ((i k : ℕ) → i < n → K ≤ k → P i k ≡ 0) → ((i k : ℕ) → i < n → K ≤ k → R i k ≡ 0)
-    → ((i k : ℕ) → i < n → k < K → P i k ≡ R i k) → P ≡ R
-vec-same p n K P R vP vR zP zR h = fun-ext λ i. fun-ext λ k. elim (decLt i n) [
-  | yes hi ↦ elim (decLt k K) [
-    | yes hk ↦ h i k hi hk
-    | no g ↦ zP i k hi (omega arith) ∙ sym (zR i k hi (omega arith))
-  ]
-  | no g ↦ vP .out i k (omega arith) ∙ sym (vR .out i k (omega arith))
-]
-
 pub timesXPower-at : (t : ℕ) (P : Vect) (i k : ℕ) → timesXPower t P i (t + k) ≡ P i k
 unfolding timesXPower timesX
 timesXPower-at zero P i k = rw zero-add
@@ -210,11 +199,6 @@ vanishes-more p n F j P h z k hk = elim (ℕ-discrete k j) [ yes q ↦ rw q z | 
 
 pub vanishes-less : (p n : ℕ) (F : Vect) (j : ℕ) (P : Vect) → VanishesTo p n F (suc j) P → VanishesTo p n F j P
 vanishes-less p n F j P h k hk = h k (omega arith)
-
--- the relations of order s see the series only below s, and only modulo p
-pub vanishes-series : (p n : ℕ) (F G : Vect) (s : ℕ) → ((i k : ℕ) → i < n → k < s → F i k % p ≡ G i k % p)
-    → (P : Vect) → VanishesTo p n F s P → VanishesTo p n G s P
-vanishes-series p n F G s h P r k hk = sym (dot-series p n P F G k (λ i t hi ht. h i t hi (omega arith))) ∙ r k hk
 
 -- many multiples, one by one
 pub addMultiples-none : (p n : ℕ) (a : ℕ → ℕ) (R : ℕ → Vect) (P : Vect) → IsVec p n P → P ≡ addMultiples p 0 a R P
