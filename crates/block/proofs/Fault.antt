@@ -6,14 +6,14 @@ use borrow.Author.Tests.{not-true, not-false}
 use mathlib.Core.List.{List}
 use Prim.Native.Nat.{ℕ, zero, suc, _+_, _*_, _-_, _≤_, _<_}
 use native.Mathlib.Nat.{add-zero, sub-zero}
-use native.Mathlib.Decide.{ℕ-discrete}
 use native.Mathlib.Omega.{arith}
 use lib.ListN.{take, drop}
 use lib.Seq.{drop-drop}
-use Rattle.field.specs.Refusal.{Order, NoTest, First}
+use Rattle.field.proofs.Truth.{same-of}
+use Rattle.field.specs.Refusal.{Order, NoTest, First, FirstOrNone}
 use Rattle.block.specs.Read.{numberOf, Sound}
 use Rattle.block.specs.Part.{blockAt}
-use Rattle.block.specs.Fault.{faults, FirstOrNone}
+use Rattle.block.specs.Fault.{faults}
 use Rattle.block.proofs.File.{block-next}
 
 -- a test that was negated: it failed, or it held
@@ -71,21 +71,17 @@ pub none-left : (first count : ℕ) (l : List ℕ) (b : ℕ) → count ≤ b →
 unfolding faults NoTest FirstOrNone
 none-left first count l b h = let e : count - b ≡ 0 = omega arith in rw e (inl (tt, refl))
 
--- an equation of numbers that is not refuted holds
-stable : (a b : ℕ) → ¬ (a ≢ b) → a ≡ b
-stable a b h = elim (ℕ-discrete a b) [ yes e ↦ e | no e ↦ absurd (h e) ]
-
 sound-stable : (l : List ℕ) → ¬ (¬ Sound l) → Sound l
 sound-stable l h = record {
-  a-right = stable _ _ (λ e. h (λ s. e (s .a-right)));
-  b-right = stable _ _ (λ e. h (λ s. e (s .b-right)));
+  a-right = same-of _ _ (λ e. h (λ s. e (s .a-right)));
+  b-right = same-of _ _ (λ e. h (λ s. e (s .b-right)));
 }
 
 pub no-faults : (b m : ℕ) (l : List ℕ) → NoTest (faults b m l) → (j : ℕ) → j < m
     → (numberOf (blockAt l j) ≡ b + j) × Sound (blockAt l j)
 unfolding faults NoTest blockAt
 no-faults b zero l h j i = absurd (omega arith)
-no-faults b (suc m) l h zero i = rw add-zero (stable _ _ (h .0), sound-stable _ (h .1 .0))
+no-faults b (suc m) l h zero i = rw add-zero (same-of _ _ (h .0), sound-stable _ (h .1 .0))
 no-faults b (suc m) l h (suc j) i =
     let e : suc b + j ≡ b + suc j = omega arith in
     rw (← e, ← block-next l j) (no-faults (suc b) m (drop 512 l) (h .1 .1) j (omega arith))

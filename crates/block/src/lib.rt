@@ -16,7 +16,8 @@ ghost use Rattle.block.specs.Read.{numberOf, Sound};
 ghost use Rattle.block.specs.Seal.{sealed};
 ghost use Rattle.block.specs.File.{blocksOf};
 ghost use Rattle.block.specs.Part.{payloadAt};
-ghost use Rattle.block.specs.Fault.{faults, FirstOrNone};
+ghost use Rattle.block.specs.Fault.{faults};
+ghost use Rattle.field.specs.Refusal.{FirstOrNone};
 
 // Check A and check B.
 pub struct Checks {

@@ -1,17 +1,18 @@
 -- Where the row view lies: its start is i - 1 times its length, also where it is empty.
-use mathlib.Core.Path.{_≡_, refl, ap, sym, _∙_}
+use mathlib.Core.Path.{_≡_, refl, ap, _∙_}
 use mathlib.Core.List.{List, [], _∷_}
 use Prim.Native.Nat.{ℕ, _+_, _*_, _-_, _≤_}
 use native.Mathlib.Nat.{mul-zero, mul-le-mul}
 use native.Mathlib.Decide.{ℕ-discrete, decLe}
 use native.Mathlib.Omega.{arith}
-use lib.ListN.{length, take, drop}
+use lib.ListN.{length}
 use Rattle.field.specs.Answer.{result}
-use Rattle.row.specs.View.{part}
-use Rattle.row.proofs.Part.{part-fits, part-length, row-words}
+use Rattle.words.specs.Part.{part}
+use Rattle.words.proofs.Part.{part-fits, part-length}
+use Rattle.words.proofs.Sizes.{row-small}
 use Rattle.engine.specs.Words.{basisLength}
 use Rattle.engine.specs.RowView.{ViewFits, RowViewed}
-use Rattle.embed.specs.RowAt.{RowAt, RowSaid}
+use Rattle.embed.specs.RowAt.{RowSaid}
 
 -- each of the sizes is decided
 module _ {words n s i : ℕ} (nn : ¬ (¬ (ViewFits words n s i))) where
@@ -45,7 +46,7 @@ module _ {basis : List ℕ} {n s i : ℕ} {view : List ℕ} (v : RowViewed basis
     | yes e ↦ (omega (arith, e), omega (arith, ap (λ (k : ℕ). (i - 1) * k) e, mul-zero (i - 1)))
     | no some ↦
         let f = view-fits some in
-        let small : length view ≤ 2048 = omega (arith, view-count f, row-words n (s + 1) (f .n-to) (omega (arith, f .s-to))) in
+        let small : length view ≤ 2048 = omega (arith, view-count f, row-small n (s + 1) (f .n-to) (omega (arith, f .s-to))) in
         (small, mul-le-mul {n₁ = i - 1} {m₁ = length view} {n₂ = 8} {m₂ = 2048} (omega (arith, f .i-to, f .n-to)) small)
   ]
 

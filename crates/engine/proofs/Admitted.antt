@@ -1,27 +1,19 @@
 -- What is known where no test of a call holds.
 use mathlib.Core.Path.{_≡_, refl}
-use mathlib.Core.Logic.{_≢_, _⊎_, inl, inr}
+use mathlib.Core.Logic.{_⊎_, inl, inr}
 use mathlib.Core.List.{List, []}
-use Prim.Native.Nat.{ℕ, _+_, _*_, _≤_, _<_}
-use native.Mathlib.Nat.{mul-le-mul}
-use native.Mathlib.Decide.{ℕ-discrete, decLt}
+use Prim.Native.Nat.{ℕ, _≤_, _<_}
+use native.Mathlib.Decide.{decLt}
 use native.Mathlib.Omega.{arith}
-use lib.ListN.{length, getD}
+use lib.ListN.{length}
 use Rattle.field.specs.Modulus.{Modulus}
 use Rattle.field.specs.Refusal.{Order, NoTest, First, Outcome}
-use Rattle.field.proofs.Refusal.{first-or-none}
 use Rattle.field.proofs.Tests.{modulus-passed}
-use Rattle.row.specs.View.{poly}
-use Rattle.row.proofs.Part.{poly-past}
-use Rattle.engine.specs.Words.{orderOf, basisLength, Some}
+use Rattle.field.proofs.Truth.{same-of, neither}
+use Rattle.words.proofs.Some.{below}
+use Rattle.engine.specs.Words.{orderOf}
 use Rattle.engine.specs.Sizes.{Sizes, PairSizes}
 use Rattle.engine.specs.Orders.{basisOrder, approximantOrder, pairOrder, startOrder}
-
--- an outcome without a test that holds is an answer
-pub answer : (o : Order) (R : ℕ → Type 0) (A : Type 0) → Outcome o R A → NoTest o → A
-unfolding Outcome
-answer o R A (inl a) n = a .1
-answer o R A (inr b) n = absurd (first-or-none o (b .0) (b .1) n)
 
 -- an answer keeps that no test holds
 pub keep : (o : Order) (R : ℕ → Type 0) (A : Type 0) → Outcome o R A → Outcome o R (NoTest o × A)
@@ -29,32 +21,9 @@ unfolding Outcome
 keep o R A (inl a) = inl (a .0, a)
 keep o R A (inr b) = inr b
 
-pub same-of : (a b : ℕ) → ¬ (a ≢ b) → a ≡ b
-same-of a b h = elim (ℕ-discrete a b) [ yes e ↦ e | no ne ↦ absurd (h ne) ]
-
-pub neither : {A B : Type 0} → ¬ (A ⊎ B) → (¬ A) × (¬ B)
-neither h = ((λ a. h (inl a)), λ b. h (inr b))
-
--- words of which none is at least a bound above 0
-pub below : (b : ℕ) (l : List ℕ) → 0 < b → ¬ (Some (λ x. b ≤ x) l) → (i : ℕ) → getD l i 0 < b
-unfolding poly
-below b l h none i = elim (decLt i (length l)) [
-  | yes g ↦ elim (decLt (getD l i 0) b) [ yes k ↦ k | no k ↦ absurd (none (i, g, omega arith)) ]
-  | no g ↦ omega (arith, poly-past l i (omega arith))
-]
-
 pub start-sizes : (p n : ℕ) → NoTest (startOrder p n) → (1 ≤ n) × (n ≤ 8)
 unfolding NoTest
 start-sizes p n t = let n-in = neither (t .1 .0) in (omega (arith, n-in .0), omega (arith, n-in .1))
-
--- lengths fit
-pub series-small : (n s : ℕ) → n ≤ 8 → s ≤ 255 → n * s ≤ 2040
-series-small n s h g = omega (arith, mul-le-mul h g)
-
-pub basis-small : (n s : ℕ) → n ≤ 8 → s ≤ 255 → basisLength n s ≤ 16384
-basis-small n s h g =
-    let r : n * (s + 1) ≤ 2048 = omega (arith, mul-le-mul {m₁ = s + 1} {m₂ = 256} h (omega arith)) in
-    omega (arith, mul-le-mul {n₁ = n} h r)
 
 pub basis-sizes : (p n s : ℕ) (d series : List ℕ) (basis : ℕ) → NoTest (basisOrder p n s d series basis) → Sizes p n s d series basis
 unfolding NoTest

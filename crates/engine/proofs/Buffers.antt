@@ -28,7 +28,8 @@ use Rattle.engine.specs.Orders.{basisOrder, approximantOrder}
 use Rattle.engine.specs.Basis.{BasisFound, BasisAnswered, BasisOutcome}
 use Rattle.engine.specs.Approximant.{Approximated, ApproximantOutcome}
 use Rattle.engine.proofs.Rows.{rows-ext}
-use Rattle.engine.proofs.Admitted.{answer, basis-sizes, approximant-sizes}
+use Rattle.engine.proofs.Admitted.{basis-sizes, approximant-sizes}
+use Rattle.field.proofs.Refusal.{answer}
 
 -- two sets of series have the same relations to order s
 abbrev pub SameRelations : ℕ → ℕ → ℕ → List ℕ → List ℕ → Type 0

@@ -18,7 +18,8 @@ use Rattle.relation.proofs.Pair.{pair-nonzero}
 use Rattle.row.specs.View.{poly}
 use Rattle.engine.specs.Orders.{pairOrder}
 use Rattle.engine.specs.Pair.{PairOutcome}
-use Rattle.engine.proofs.Admitted.{answer, pair-sizes}
+use Rattle.engine.proofs.Admitted.{pair-sizes}
+use Rattle.field.proofs.Refusal.{answer}
 use Rattle.engine.proofs.Series.{minus-one-ends}
 
 -- a product with the series -1

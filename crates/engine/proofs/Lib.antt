@@ -1,6 +1,5 @@
 -- Lemmas and theorems of the engine's calls.
 pub mod Rows
-pub mod Tests
 pub mod Admitted
 pub mod Buffers
 pub mod Series

@@ -19,7 +19,8 @@ use Rattle.relation.specs.Pair.{pairSeries, pairType, Pair}
 use Rattle.relation.proofs.Shift.{Offset}
 use Rattle.relation.proofs.Bridge.{minimal→basis, basis→minimal, basis→least, least→basis, pivots-exist}
 use Rattle.relation.proofs.Pair.{pair-order, pair-numerator, pair-denominator}
-use Rattle.row.specs.View.{part, poly, vector, row}
+use Rattle.row.specs.View.{poly, vector, row}
+use Rattle.words.specs.Part.{part}
 use Rattle.row.proofs.Part.{part-at, poly-past}
 use Rattle.step.specs.Shift.{shift, TypeWords}
 use Rattle.engine.specs.Words.{typeOf}

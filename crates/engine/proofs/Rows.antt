@@ -7,8 +7,10 @@ use native.Mathlib.Omega.{arith}
 use lib.ListN.{length}
 use lib.Seq.{ext-getD}
 use Rattle.relation.proofs.Theorems.{SameRows}
-use Rattle.row.specs.View.{part, poly, vector, row}
-use Rattle.row.proofs.Part.{part-fits, part-length, part-at}
+use Rattle.row.specs.View.{poly, vector, row}
+use Rattle.words.specs.Part.{part}
+use Rattle.words.proofs.Part.{part-fits, part-length}
+use Rattle.row.proofs.Part.{part-at}
 
 pub list-ext : (xs ys : List ℕ) → length xs ≡ length ys → ((t : ℕ) → poly xs t ≡ poly ys t) → xs ≡ ys
 unfolding poly

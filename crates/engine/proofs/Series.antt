@@ -10,8 +10,10 @@ use lib.ListN.{length, set, length-set}
 use lib.Seq.{getD-set-same, getD-set-other}
 use borrow.Rule.Slice.PartMut.{putMid}
 use Rattle.relation.specs.Pair.{pairSeries}
-use Rattle.row.specs.View.{part, poly, vector}
-use Rattle.row.proofs.Part.{part-at, put, put-length, put-same, put-other, row-ext, vector-high}
+use Rattle.row.specs.View.{poly, vector}
+use Rattle.words.specs.Part.{part}
+use Rattle.words.proofs.Part.{put, put-length, put-same, put-other}
+use Rattle.row.proofs.Part.{part-at, row-ext, vector-high}
 
 -- the series -1 past its constant term
 pub minus-one-ends : (p : ℕ) (g : ℕ → ℕ) (y : ℕ) → y ≢ 0 → pairSeries p g 0 y ≡ 0

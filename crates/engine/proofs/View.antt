@@ -6,8 +6,8 @@ use Prim.Native.Nat.{ℕ, _+_, _*_, _-_}
 use native.Mathlib.Nat.{mul-pos}
 use native.Mathlib.Omega.{arith}
 use lib.ListN.{length}
-use Rattle.row.specs.View.{part}
-use Rattle.row.proofs.Part.{part-fits, part-length}
+use Rattle.words.specs.Part.{part}
+use Rattle.words.proofs.Part.{part-fits, part-length}
 use Rattle.engine.specs.RowView.{ViewFits, RowViewed}
 
 pub empty-is-misfit : (basis : List ℕ) (n s i : ℕ) (view : List ℕ) → RowViewed basis n s i view → (view ≡ []) ↔ (¬ (ViewFits (length basis) n s i))

@@ -5,7 +5,8 @@ use Prim.Native.Nat.{ℕ, zero, suc, _+_, _*_, _-_, _≤_, _<_}
 use lib.ListN.{length}
 use Rattle.field.specs.Modulus.{Modulus}
 use Rattle.field.specs.Refusal.{Order, _when_}
-use Rattle.engine.specs.Words.{orderOf, basisLength, Some}
+use Rattle.engine.specs.Words.{orderOf, basisLength}
+use Rattle.words.specs.Some.{Some}
 
 -- "Basis: 1, 2, 3, 4, 5, 6."
 abbrev pub basisOrder : ℕ → ℕ → ℕ → List ℕ → List ℕ → ℕ → Order

@@ -3,7 +3,7 @@ use mathlib.Core.Path.{_≡_}
 use mathlib.Core.List.{List, []}
 use Prim.Native.Nat.{ℕ, _+_, _*_, _-_, _≤_}
 use lib.ListN.{length}
-use Rattle.row.specs.View.{part}
+use Rattle.words.specs.Part.{part}
 use Rattle.engine.specs.Words.{basisLength}
 
 -- the sizes fit a lent basis of that many words

@@ -1,7 +1,7 @@
 -- How the lent words are read (document 01, "Buffers"); series and rows are read by crate row's View.
-use Prim.Native.Nat.{ℕ, _+_, _*_, _-_, _<_}
+use Prim.Native.Nat.{ℕ, _+_, _*_, _-_}
 use mathlib.Core.List.{List}
-use lib.ListN.{length, getD}
+use lib.ListN.{getD}
 use lib.IntN.{ℤ, pos}
 use Rattle.relation.specs.Sum.{sumTo}
 
@@ -16,7 +16,3 @@ orderOf n d = sumTo n (λ i. getD d i 0 + 1) - 1
 -- the length of a basis: n rows of n entries of s + 1 words
 abbrev pub basisLength : ℕ → ℕ → ℕ
 basisLength n s = n * (n * (s + 1))
-
--- some word of a list has the property
-abbrev pub Some : (ℕ → Type 0) → List ℕ → Type 0
-Some Bad l = (i : ℕ) × (i < length l) × Bad (getD l i 0)

@@ -9,7 +9,7 @@ ghost use Rattle.relation.specs.Sum.{sumTo};
 ghost use Rattle.relation.specs.Pair.{pairSeries};
 ghost use Rattle.row.specs.View.{poly, vector, degreeAt};
 ghost use Rattle.step.specs.Shift.{rowWeight, TypeWords, TopsWithin};
-ghost use Rattle.engine.specs.Words.{orderOf, basisLength, Some};
+ghost use Rattle.engine.specs.Words.{orderOf, basisLength};
 ghost use Rattle.engine.specs.Orders.{basisOrder, approximantOrder, pairOrder, startOrder, after};
 ghost use Rattle.engine.specs.Sizes.{Sizes, PairSizes};
 ghost use Rattle.engine.specs.Answers.{basisSays, pairSays};
@@ -36,20 +36,6 @@ pub enum PairAnswer {
 struct Solved {
     least: usize,
     count: usize,
-}
-
-// Whether some word is at least the bound.
-pub fn any_from(words: &[u32], bound: u32) -> bool
-    ensures { λ r. ⌜ (r ≡ true) ↔ Some (λ x. bound ≤ x) (now (words .entry)) ⌝ }
-{
-    let mut i = 0;
-    while i < words.len() {
-        if words[i] >= bound {
-            return true;
-        }
-        i += 1;
-    }
-    false
 }
 
 fn test_start(p: u32, n: u32) -> Tested
@@ -86,10 +72,10 @@ fn test_basis_rest(p: u32, n: u32, s: u32, d: &[u32], series: &[u32], basis: usi
     if basis != rows * (rows * (order + 1)) {
         return Tested::Refused(4);
     }
-    if any_from(d, 256) {
+    if words::any_from(d, 256) {
         return Tested::Refused(5);
     }
-    if any_from(series, p) {
+    if words::any_from(series, p) {
         return Tested::Refused(6);
     }
     Tested::Passed
@@ -132,7 +118,7 @@ fn test_approximant_order(p: u32, n: usize, d: &[u32], series: &[u32], basis: us
     if basis != n * (n * (order + 1)) {
         return Tested::Refused(4);
     }
-    if any_from(series, p) {
+    if words::any_from(series, p) {
         return Tested::Refused(6);
     }
     Tested::Passed
@@ -146,7 +132,7 @@ fn test_approximant_type(p: u32, n: u32, d: &[u32], series: &[u32], basis: usize
     if d.len() != rows {
         return Tested::Refused(4);
     }
-    if any_from(d, 256) {
+    if words::any_from(d, 256) {
         return Tested::Refused(5);
     }
     test_approximant_order(p, rows, d, series, basis)
@@ -181,7 +167,7 @@ fn test_pair_rest(p: u32, k: u32, g: &[u32], r: usize, t: usize) -> Tested
     if t != order - first + 1 {
         return Tested::Refused(4);
     }
-    if any_from(g, p) {
+    if words::any_from(g, p) {
         return Tested::Refused(6);
     }
     Tested::Passed
@@ -230,7 +216,7 @@ pub fn row_view(basis: &[u32], n: u32, s: u32, i: u32) -> &[u32]
     if view_fits(basis.len(), n, s, i) {
         let width = s as usize + 1;
         let at = i as usize - 1;
-        row::part_at(basis, at, n as usize * width)
+        words::part_at(basis, at, n as usize * width)
     } else {
         &basis[..0]
     }
@@ -321,7 +307,7 @@ fn pair_series(f: Field, g: &[u32], series: &mut [u32])
     let end = order + order;
     row::fill_zero(series);
     series[0] = f.modulus - 1;
-    row::copy(g, &mut series[order..end]);
+    words::copy(g, &mut series[order..end]);
 }
 
 // The words from start on, as many as are lent.
@@ -330,7 +316,7 @@ fn copy_from(words: &[u32], start: usize, into: &mut [u32])
     ensures { λ _. ⌜ now (into .exit) ≡ take (length (now (into .entry))) (drop start (now (words .entry))) ⌝ }
 {
     let end = start + into.len();
-    row::copy(&words[start..end], into);
+    words::copy(&words[start..end], into);
 }
 
 // The pair, worked out in lent scratch.

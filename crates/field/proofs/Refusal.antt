@@ -25,6 +25,16 @@ unfolding NoTest
 none-both [] o′ a b = b
 none-both (l ∷ o) o′ a b = (a .0, none-both o o′ (a .1) b)
 
+pub none-left : (o o′ : Order) → NoTest (o ++ o′) → NoTest o
+unfolding NoTest
+none-left [] o′ a = tt
+none-left (l ∷ o) o′ a = (a .0, none-left o o′ (a .1))
+
+pub none-right : (o o′ : Order) → NoTest (o ++ o′) → NoTest o′
+unfolding NoTest
+none-right [] o′ a = a
+none-right (l ∷ o) o′ a = none-right o o′ (a .1)
+
 pub first-left : (o o′ : Order) (k : ℕ) → First o k → First (o ++ o′) k
 unfolding First
 first-left [] o′ k a = absurd a
@@ -35,6 +45,12 @@ pub first-right : (o o′ : Order) (k : ℕ) → NoTest o → First o′ k → F
 unfolding First NoTest
 first-right [] o′ k a b = b
 first-right (l ∷ o) o′ k a b = inr (a .0, first-right o o′ k (a .1) b)
+
+-- an outcome where no test holds is an answer
+pub answer : (o : Order) (R : ℕ → Type 0) (A : Type 0) → Outcome o R A → NoTest o → A
+unfolding Outcome
+answer o R A (inl a) n = a .1
+answer o R A (inr b) n = absurd (first-or-none o (b .0) (b .1) n)
 
 -- two outcomes of one order
 pub same-outcome : (o : Order) (R R′ : ℕ → Type 0) (A A′ : Type 0) → Outcome o R A → Outcome o R′ A′

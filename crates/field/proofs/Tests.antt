@@ -1,4 +1,4 @@
--- What a call's tests found: no test holds where they passed, and else the number is the first one's; what the call then says.
+-- What a call's tests found: no test holds where they passed, and else the number is the first one's; how tests follow each other.
 use mathlib.Core.Path.{_≡_, refl}
 use mathlib.Core.Logic.{inl, inr}
 use mathlib.Core.List.{[], _∷_, _++_}
@@ -6,8 +6,7 @@ use Prim.Native.Nat.{ℕ, _<_, _≤_}
 use native.Mathlib.Omega.{arith}
 use Rattle.field.specs.declared.Tested.{Tested}
 use Rattle.field.specs.Refusal.{Line, Order, _when_, NoTest, First, Outcome}
-use Rattle.field.specs.Answer.{Answer, refusal}
-use Rattle.field.specs.Calls.{Tests, Says, operandOrder}
+use Rattle.field.specs.Calls.{Tests, operandOrder}
 use Rattle.field.specs.Modulus.{Modulus}
 use Rattle.field.proofs.Refusal.{none-both, first-left, first-right}
 use Rattle.field.proofs.Trial.{modulus-decided}
@@ -25,27 +24,43 @@ stopped o t k (inr a) e =
     let i : a .0 ≡ k = cc in
     rw i at (a .1)
 
--- one test more
-module _ (o : Order) (l : Line) (t : Tested) (h : Tests o t) where
-  pub more-passed : t ≡ Tested.Passed → ¬ (l .test) → Tests (o ++ (l ∷ [])) Tested.Passed
-  unfolding Outcome NoTest
-  more-passed e n = inl (none-both o (l ∷ []) (passed o t h e) (n, tt), refl)
+-- tests line by line: the first line's test holds
+pub here : (l : Line) (o : Order) → l .test → Tests (l ∷ o) (Tested.Refused (l .number))
+unfolding Outcome First
+here l o y = inr (l .number, inl (y, refl), refl)
 
-  pub more-refused : t ≡ Tested.Passed → l .test → Tests (o ++ (l ∷ [])) (Tested.Refused (l .number))
-  unfolding Outcome First
-  more-refused e y = inr (_, first-right o (l ∷ []) _ (passed o t h e) (inl (y, refl)), refl)
+-- it does not
+pub later : (l : Line) (o : Order) (t : Tested) → ¬ (l .test) → Tests o t → Tests (l ∷ o) t
+unfolding Outcome First NoTest
+later l o t n (inl a) = inl ((n, a .0), a .1)
+later l o t n (inr b) = inr (b .0, inr (n, b .1), b .2)
 
-  pub more-stopped : (k : ℕ) → t ≡ Tested.Refused k → Tests (o ++ (l ∷ [])) (Tested.Refused k)
+pub no-more : Tests [] Tested.Passed
+unfolding Outcome NoTest
+no-more = inl (tt, refl)
+
+-- one run of tests after another
+module _ (o o′ : Order) (t : Tested) (h : Tests o t) where
+  -- o passed, and o′ is tested
+  pub and-then : (t′ : Tested) → t ≡ Tested.Passed → Tests o′ t′ → Tests (o ++ o′) t′
   unfolding Outcome
-  more-stopped k e = inr (k, first-left o (l ∷ []) k (stopped o t k h e), refl)
+  and-then t′ e (inl a) = inl (none-both o o′ (passed o t h e) (a .0), a .1)
+  and-then t′ e (inr b) = inr (b .0, first-right o o′ (b .0) (passed o t h e) (b .1), b .2)
 
-pub says-answer : (o : Order) (t : Tested) (said : Answer) (A : Type 0) → Tests o t → t ≡ Tested.Passed → A → Says o said A
-unfolding Outcome
-says-answer o t said A h e a = inl (passed o t h e, a)
+  -- o is refused
+  pub and-stop : (k : ℕ) → t ≡ Tested.Refused k → Tests (o ++ o′) (Tested.Refused k)
+  unfolding Outcome
+  and-stop k e = inr (k, first-left o o′ k (stopped o t k h e), refl)
 
-pub says-refusal : (o : Order) (t : Tested) (k : ℕ) (A : Type 0) → Tests o t → t ≡ Tested.Refused k → Says o (refusal k) A
-unfolding Outcome
-says-refusal o t k A h e = inr (k, stopped o t k h e, refl)
+-- what a call gives after its tests
+module _ (o : Order) (t : Tested) (R : ℕ → Type 0) (A : Type 0) (h : Tests o t) where
+  pub answers : t ≡ Tested.Passed → A → Outcome o R A
+  unfolding Outcome
+  answers e a = inl (passed o t h e, a)
+
+  pub refuses : (k : ℕ) → t ≡ Tested.Refused k → R k → Outcome o R A
+  unfolding Outcome
+  refuses k e r = inr (k, stopped o t k h e, r)
 
 -- a call that begins with the test of the modulus
 pub modulus-passed : (p : ℕ) (o : Order) → NoTest ((1 when (¬ (Modulus p))) ∷ o) → Modulus p

@@ -2,7 +2,7 @@
 use mathlib.Core.Path.{_≡_, sym, _∙_, refl}
 use mathlib.Core.Logic.{_≢_, _⊎_, inl, inr, _↔_}
 use Prim.Native.Nat.{ℕ, zero, suc, _+_, _*_, _%_, _/_, _<_, _≤_}
-use native.Mathlib.Nat.{mul-comm, mul-assoc, mul-one, mul-zero, zero-mul, zero-add, mod-add-div, mul-mod-right, mul-le-mul, div-lt-iff-lt-mul, le-div-iff-mul-le}
+use native.Mathlib.Nat.{mul-comm, mul-assoc, mul-one, mul-zero, zero-mul, zero-add, mod-add-div, mul-mod-right, mul-le-mul}
 use native.Mathlib.Decide.{ℕ-discrete, decLt}
 use native.Mathlib.Omega.{arith}
 use Rattle.field.specs.Prime.{Divides, Prime}
@@ -57,13 +57,11 @@ module _ (n : ℕ) (odd : n % 2 ≡ 1) where
 
 module _ (n d : ℕ) (one<d : 1 < d) where
   -- a number up to the square root is well below n
-  pub root-below : d ≤ n / d → d + d ≤ n
-  root-below h =
-      let s : d * d ≤ n = le-div-iff-mul-le {k = d} (omega arith) .0 h in
-      omega (arith, mul-le-mul {n₁ = 2} {m₁ = d} {n₂ = d} {m₂ = d} (omega arith) (omega arith))
+  pub root-below : d * d ≤ n → d + d ≤ n
+  root-below h = omega (arith, mul-le-mul {n₁ = 2} {m₁ = d} {n₂ = d} {m₂ = d} (omega arith) (omega arith))
 
   -- of two factors of n one is at most the square root
-  pub past-root : 1 < n → n / d < d → NoneBelow n d → Prime n
+  pub past-root : 1 < n → n < d * d → NoneBelow n d → Prime n
   past-root u h none = record { above-one = u; only = λ e v. go e (v .0) (v .1) }
     where
       go : (e q : ℕ) → e * q ≡ n → (e ≡ 1) ⊎ (e ≡ n)
@@ -71,15 +69,13 @@ module _ (n d : ℕ) (one<d : 1 < d) where
       go zero (suc q) m = absurd (omega (arith, zero-mul (suc q)))
       go (suc zero) (suc q) m = inl refl
       go (suc (suc e)) (suc zero) m = inr (sym (mul-one _) ∙ m)
-      go (suc (suc e)) (suc (suc q)) m =
-          let s : n < d * d = div-lt-iff-lt-mul {k = d} (omega arith) .0 h in
-          elim (decLt (suc (suc e)) d) [
-            | yes l ↦ absurd (none _ (omega arith) l (_, m))
-            | no l ↦ elim (decLt (suc (suc q)) d) [
-              | yes l′ ↦ absurd (none _ (omega arith) l′ (_, mul-comm (suc (suc q)) (suc (suc e)) ∙ m))
-              | no l′ ↦ absurd (omega (arith, mul-le-mul {n₁ = d} {m₁ = d} {n₂ = suc (suc e)} {m₂ = suc (suc q)} (omega arith) (omega arith)))
-            ]
-          ]
+      go (suc (suc e)) (suc (suc q)) m = elim (decLt (suc (suc e)) d) [
+        | yes l ↦ absurd (none _ (omega arith) l (_, m))
+        | no l ↦ elim (decLt (suc (suc q)) d) [
+          | yes l′ ↦ absurd (none _ (omega arith) l′ (_, mul-comm (suc (suc q)) (suc (suc e)) ∙ m))
+          | no l′ ↦ absurd (omega (arith, mul-le-mul {n₁ = d} {m₁ = d} {n₂ = suc (suc e)} {m₂ = suc (suc q)} (omega arith) (omega arith)))
+        ]
+      ]
 
 -- 2 is the one even prime
 pub even-prime : (n : ℕ) → 1 < n → n % 2 ≡ 0 → Prime n ↔ (n ≡ 2)
@@ -112,7 +108,7 @@ prime-decided : (n : ℕ) → Dec (Prime n)
 prime-decided n = elim (decLt 1 n) [
   | no l ↦ no (λ pr. l (pr .above-one))
   | yes l ↦ elim (find-divisor n n) [
-    | inl none ↦ yes (past-root n n l l (div-lt-iff-lt-mul {k = n} (omega arith) .1 (omega (arith, mul-le-mul {n₁ = 2} {m₁ = n} {n₂ = n} {m₂ = n} (omega arith) (omega arith)))) none)
+    | inl none ↦ yes (past-root n n l l (omega (arith, mul-le-mul {n₁ = 2} {m₁ = n} {n₂ = n} {m₂ = n} (omega arith) (omega arith))) none)
     | inr f ↦ no (composite n (f .0) (f .1) (f .2) (divides-mod (f .0) n (f .3)))
   ]
 ]

@@ -1,7 +1,9 @@
--- A test that answers true exactly where a statement holds.
+-- A test that answers true exactly where a statement holds, and what a test that does not hold says.
 use mathlib.Core.Path.{_≡_, refl, _∙_, sym}
 use mathlib.Core.Bool.{Bool, true, false, false≢true}
-use mathlib.Core.Logic.{_↔_}
+use mathlib.Core.Logic.{_↔_, _≢_, _⊎_, ⊎-elim, inl, inr}
+use Prim.Native.Nat.{ℕ}
+use native.Mathlib.Decide.{ℕ-discrete}
 
 pub shown : {A : Type 0} → A → (true ≡ true) ↔ A
 shown a = (λ e. a, λ x. refl)
@@ -12,3 +14,17 @@ refuted n = (λ e. absurd (false≢true e), λ a. absurd (n a))
 -- what a test that failed says
 pub fails : {A : Type 0} (t : Bool) → (t ≡ true) ↔ A → t ≡ false → ¬ A
 fails t i e a = false≢true (sym e ∙ i .1 a)
+
+-- numbers that do not differ
+pub same-of : (a b : ℕ) → ¬ (a ≢ b) → a ≡ b
+same-of a b h = elim (ℕ-discrete a b) [ yes e ↦ e | no ne ↦ absurd (h ne) ]
+
+pub exact : {a b : ℕ} → a ≡ b → ¬ (a ≢ b)
+exact e n = n e
+
+-- none of two tests
+pub neither : {A B : Type 0} → ¬ (A ⊎ B) → (¬ A) × (¬ B)
+neither h = ((λ a. h (inl a)), λ b. h (inr b))
+
+pub no-either : {A B : Type 0} → ¬ A → ¬ B → ¬ (A ⊎ B)
+no-either a b = ⊎-elim a b

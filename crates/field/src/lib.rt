@@ -41,7 +41,7 @@ fn odd_is_prime(n: u32) -> bool
     ensures { λ r. ⌜ (r ≡ true) ↔ Prime n ⌝ }
 {
     let mut d = 3;
-    while d <= n / d {
+    while d as u64 * d as u64 <= n as u64 {
         if n % d == 0 {
             return false;
         }

@@ -17,11 +17,11 @@ use Rattle.block.proofs.File.{length-file, blocks-enough, payload-blocks, block
 use Rattle.block.proofs.Fault.{faultless}
 use Rattle.jobfile.specs.Job.{Job, Admitted}
 use Rattle.jobfile.specs.Layout.{wordCount, wordsOf, layout}
-use Rattle.jobfile.specs.Some.{Some}
+use Rattle.words.specs.Some.{Some}
+use Rattle.words.proofs.Sizes.{series-small}
+use Rattle.field.proofs.Truth.{no-either, exact}
 use Rattle.jobfile.specs.Payload.{blocksIn, typeIn, seriesIn, spareIn, jobIn}
 use Rattle.jobfile.specs.Orders.{sizeTests, lengthTests, contentTests, readerOrder}
-use Rattle.jobfile.proofs.Sizes.{series-small}
-use Rattle.jobfile.proofs.Tests.{no-either, exact}
 use Rattle.jobfile.proofs.Payload.{length-part, part-at, part-none}
 
 -- word k after the first three

@@ -1,8 +1,7 @@
 -- The laws of job files.
-pub mod Tests
+pub mod Faults
 pub mod Payload
 pub mod Sizes
-pub mod Filled
 pub mod Passed
 pub mod LaidOut
 pub mod Over

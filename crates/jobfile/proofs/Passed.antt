@@ -4,9 +4,8 @@ use mathlib.Core.Logic.{_≢_}
 use mathlib.Core.List.{List, _++_}
 use Prim.Native.Nat.{ℕ, _+_, _*_, _-_, _/_, _≤_, _<_}
 use native.Mathlib.Nat.{zero-add}
-use native.Mathlib.Decide.{decLt}
 use native.Mathlib.Omega.{arith}
-use lib.ListN.{length, getD, List·getD-eq-default}
+use lib.ListN.{length}
 use Rattle.field.specs.Modulus.{Modulus}
 use Rattle.field.specs.Refusal.{NoTest}
 use Rattle.field.proofs.Tests.{modulus-passed}
@@ -19,19 +18,14 @@ use Rattle.block.proofs.File.{file-is}
 use Rattle.block.proofs.Fault.{no-faults}
 use Rattle.jobfile.specs.Job.{Admitted, jobOf}
 use Rattle.jobfile.specs.Layout.{wordCount, wordsOf, layout}
-use Rattle.jobfile.specs.Some.{Some}
+use Rattle.words.proofs.Some.{below}
+use Rattle.words.proofs.Sizes.{series-small}
+use Rattle.field.proofs.Refusal.{none-left, none-right}
+use Rattle.field.proofs.Truth.{same-of, neither}
 use Rattle.jobfile.specs.Payload.{blocksIn, payloadPart, typeIn, seriesIn, jobIn}
 use Rattle.jobfile.specs.Orders.{sizeTests, lengthTests, contentTests, wordTests, readerOrder, bufferTests, writerOrder}
-use Rattle.jobfile.proofs.Sizes.{series-small, fits}
-use Rattle.jobfile.proofs.Tests.{none-left, none-right, same-of, neither}
+use Rattle.jobfile.proofs.Sizes.{fits}
 use Rattle.jobfile.proofs.Payload.{length-part, part-some, upTo-append}
-
--- words of which none is at least a bound above 0
-pub below : (b : ℕ) (l : List ℕ) → 0 < b → ¬ (Some (λ x. b ≤ x) l) → (i : ℕ) → getD l i 0 < b
-below b l h none i = elim (decLt i (length l)) [
-  | yes g ↦ elim (decLt (getD l i 0) b) [ yes k ↦ k | no k ↦ absurd (none (i, g, omega arith)) ]
-  | no g ↦ let e : getD l i 0 ≡ 0 = List·getD-eq-default l 0 (omega arith) in omega arith
-]
 
 pub record SizesFit (p n s : ℕ) : Type 0 where
   pub modulus : Modulus p

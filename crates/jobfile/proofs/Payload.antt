@@ -11,7 +11,7 @@ use Rattle.field.proofs.Truth.{fails}
 use Rattle.block.specs.Block.{upTo}
 use Rattle.block.specs.Part.{payloadAt}
 use Rattle.block.proofs.Table.{length-upTo, getD-upTo}
-use Rattle.jobfile.specs.Some.{Some}
+use Rattle.words.specs.Some.{Some}
 use Rattle.jobfile.specs.Payload.{payloadPart}
 
 module _ (file : List ℕ) (from count : ℕ) where

@@ -12,7 +12,7 @@ use lib.ListN.{length, take}
 use lib.Seq.{take-at}
 use Rattle.field.specs.Refusal.{NoTest, Outcome}
 use Rattle.field.specs.Answer.{Answer, result, refusal}
-use Rattle.field.proofs.Refusal.{same-outcome, none-both}
+use Rattle.field.proofs.Refusal.{same-outcome, none-both, answer}
 use Rattle.block.specs.File.{blocksFor}
 use Rattle.jobfile.specs.Job.{Job, Admitted, jobOf}
 use Rattle.jobfile.specs.Layout.{wordsOf, layout}
@@ -23,7 +23,7 @@ use Rattle.jobfile.specs.Lent.{over}
 use Rattle.jobfile.specs.Outcomes.{JobRead, ReadOutcome, JobWritten, WriteOutcome}
 use Rattle.jobfile.specs.declared.JobAnswer.{JobAnswer}
 use Rattle.jobfile.specs.declared.WriteAnswer.{WriteAnswer}
-use Rattle.jobfile.proofs.Tests.{answer, no-either, exact}
+use Rattle.field.proofs.Truth.{no-either, exact}
 use Rattle.jobfile.proofs.Passed.{writer-passed}
 use Rattle.jobfile.proofs.LaidOut.{length-words, length-layout, blocks-layout, job-layout, layout-sizes, layout-passes}
 

@@ -1,7 +1,6 @@
 -- What the contracts of `jobfile` cite.
 pub mod Job
 pub mod Layout
-pub mod Some
 pub mod Payload
 pub mod Orders
 pub mod Answers

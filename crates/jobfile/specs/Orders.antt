@@ -11,7 +11,7 @@ use Rattle.block.specs.File.{blocksFor}
 use Rattle.block.specs.Part.{payloadAt}
 use Rattle.block.specs.Fault.{faults}
 use Rattle.jobfile.specs.Layout.{wordCount}
-use Rattle.jobfile.specs.Some.{Some}
+use Rattle.words.specs.Some.{Some}
 use Rattle.jobfile.specs.Payload.{blocksIn, typeIn, seriesIn, spareIn}
 
 -- 1, 2, 3

@@ -11,7 +11,7 @@ ghost use Rattle.block.specs.File.{blocksFor};
 ghost use Rattle.block.specs.Part.{payloadAt};
 ghost use Rattle.jobfile.specs.Job.{Admitted, jobOf};
 ghost use Rattle.jobfile.specs.Layout.{wordCount, wordsOf};
-ghost use Rattle.jobfile.specs.Some.{Some};
+ghost use Rattle.words.specs.Some.{Some};
 ghost use Rattle.jobfile.specs.Payload.{payloadPart};
 ghost use Rattle.jobfile.specs.Orders.{sizeTests, lengthTests, contentTests, wordTests, readerOrder, bufferTests, writerOrder};
 ghost use Rattle.jobfile.specs.Answers.{jobSays, writeSays};
@@ -38,20 +38,6 @@ pub enum WriteAnswer {
     Refused(u32),
 }
 
-// Whether some word is at least the bound.
-fn any_from(words: &[u32], bound: u32) -> bool
-    ensures { λ r. ⌜ (r ≡ true) ↔ Some (λ x. bound ≤ x) (now (words .entry)) ⌝ }
-{
-    let mut i = 0;
-    while i < words.len() {
-        if words[i] >= bound {
-            return true;
-        }
-        i += 1;
-    }
-    false
-}
-
 // The same for count words of a file's payload, from word `from` on.
 fn any_payload_from(file: &[u8], from: usize, count: usize, bound: u32) -> bool
     requires { ⌜ from + count ≤ 125 * (length (now file) / 512) ⌝ }
@@ -65,17 +51,6 @@ fn any_payload_from(file: &[u8], from: usize, count: usize, bound: u32) -> bool
         i += 1;
     }
     false
-}
-
-fn copy(from: &[u32], into: &mut [u32])
-    requires { ⌜ length (now from) ≡ length (now into) ⌝ }
-    ensures { λ _. ⌜ now (into .exit) ≡ now (from .entry) ⌝ }
-{
-    let mut i = 0;
-    while i < from.len() {
-        into[i] = from[i];
-        i += 1;
-    }
 }
 
 // Fills out with words of a file's payload, from word `from` on.
@@ -228,10 +203,10 @@ fn test_buffers(p: u32, n: usize, s: usize, d: &[u32], series: &[u32], out: usiz
     if out != FILE_BYTES {
         return Tested::Refused(4);
     }
-    if any_from(d, 256) {
+    if words::any_from(d, 256) {
         return Tested::Refused(5);
     }
-    if any_from(series, p) {
+    if words::any_from(series, p) {
         Tested::Refused(6)
     } else {
         Tested::Passed
@@ -257,8 +232,8 @@ fn gather(words: &mut [u32], p: u32, n: u32, s: u32, d: &[u32], series: &[u32])
     words[2] = s;
     let after = 3 + d.len();
     let end = after + series.len();
-    copy(d, &mut words[3..after]);
-    copy(series, &mut words[after..end]);
+    words::copy(d, &mut words[3..after]);
+    words::copy(series, &mut words[after..end]);
 }
 
 // Writes a job that passed its tests.

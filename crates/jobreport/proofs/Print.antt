@@ -1,25 +1,24 @@
 -- From the calls' outcomes to the printed text: an admitted job passes the tests of the basis call and of the text, and the words that the reader left are the job.
-use mathlib.Core.Path.{_≡_, refl, ap, sym, _∙_, subst}
-use mathlib.Core.Logic.{_≢_, _⊎_, inl, inr, ⊎-elim}
-use mathlib.Core.List.{List, [], _∷_, _++_}
-use Prim.Native.Nat.{ℕ, _+_, _*_, _≤_, _<_}
+use mathlib.Core.Path.{_≡_, ap, sym, _∙_, subst}
+use mathlib.Core.Logic.{_⊎_, inl, inr, ⊎-elim}
+use mathlib.Core.List.{List, [], _∷_}
+use Prim.Native.Nat.{ℕ, _+_, _*_, _≤_}
 use native.Mathlib.Omega.{arith}
-use lib.ListN.{length, getD, take, drop, length-append}
+use lib.ListN.{length, take, drop, length-append}
 use lib.Seq.{take-at}
-use Rattle.field.specs.Refusal.{Order, _when_, NoTest, First, Outcome}
+use Rattle.field.specs.Refusal.{NoTest, First, Outcome}
 use Rattle.field.specs.Answer.{Answer, result, refusal}
 use Rattle.engine.specs.Words.{basisLength}
 use Rattle.engine.specs.Orders.{basisOrder}
-use Rattle.engine.specs.Basis.{BasisFound, BasisAnswered, BasisOutcome}
-use Rattle.engine.proofs.Admitted.{answer}
+use Rattle.engine.specs.Basis.{BasisAnswered, BasisOutcome}
+use Rattle.field.proofs.Refusal.{answer}
 use Rattle.jobfile.specs.Job.{Job, Admitted, jobOf}
 use Rattle.jobfile.specs.Layout.{layout}
-use Rattle.jobfile.specs.Lent.{over}
 use Rattle.jobfile.specs.Orders.{readerOrder}
 use Rattle.jobfile.specs.Outcomes.{JobRead, ReadOutcome}
-use Rattle.report.specs.Text.{basisText, refusalText}
-use Rattle.report.specs.Calls.{textBytes, basisOrder as textOrder, refusalOrder, WriteOutcome, BasisOutcome as TextOutcome, RefusalOutcome}
-use Rattle.jobreport.specs.Printed.{BasisText, BasisPrinted, RefusalPrinted, PrintOutcome, JobPrintOutcome}
+use Rattle.report.specs.Text.{basisText}
+use Rattle.report.specs.Calls.{basisOrder as textOrder, refusalOrder, WriteOutcome, BasisOutcome as TextOutcome}
+use Rattle.jobreport.specs.Printed.{PrintOutcome, JobPrintOutcome}
 
 -- a refusal is no result
 no-refusal : (k : ℕ) (l : List ℕ) → refusal k ≡ result l → ⊥

@@ -3,11 +3,11 @@ use field::Field;
 use report::put;
 use report::put_number;
 ghost use mathlib.Core.Path.{_≡_};
-ghost use mathlib.Core.List.{List, _∷_, [], _++_};
+ghost use mathlib.Core.List.{[], _++_};
 ghost use Prim.Native.Nat.{ℕ, _+_, _*_, _-_, _^_, _<_, _≤_};
 ghost use lib.ListN.{length, getD, take, drop};
 ghost use Rattle.report.specs.Wrote.{Room, Wrote};
-ghost use Rattle.jobtext.specs.Tokens.{classOf, scan, between, comment, within, word, rest};
+ghost use Rattle.jobtext.specs.Tokens.{classOf, scan, comment, within, word, rest};
 ghost use Rattle.jobtext.specs.Number.{numberOf};
 ghost use Rattle.jobtext.specs.Job.{jobOf, count, order, entries, coefficients, below, ended, job};
 ghost use Rattle.jobtext.specs.Message.{wordsOf, message};
@@ -275,17 +275,6 @@ fn read_numbers(
     }
 }
 
-fn copy(from: &[u32], into: &mut [u32])
-    requires { ⌜ length (now from) ≤ length (now into) ⌝ }
-    ensures { λ _. ⌜ now (into .exit) ≡ now (from .entry) ++ drop (length (now (from .entry))) (now (into .entry)) ⌝ }
-{
-    let mut k = 0;
-    while k < from.len() {
-        into[k] = from[k];
-        k += 1;
-    }
-}
-
 // After the last coefficient: nothing more, and the buffers are written.
 fn finish(
     text: &[u8],
@@ -296,10 +285,10 @@ fn finish(
     s: u32,
     d: &[u32],
     f: &[u32],
-    types: &mut [u32; 8],
-    series: &mut [u32; 2040],
+    types: &mut [u32],
+    series: &mut [u32],
 ) -> Parsed
-    requires { ⌜ Position (now text) at line × (length (now d) ≤ 8) × (length (now f) ≤ 2040) ⌝ }
+    requires { ⌜ Position (now text) at line × (length (now d) ≤ length (now types)) × (length (now f) ≤ length (now series)) ⌝ }
     ensures { λ r. ⌜ Follows (ended (job p n s (now (d .entry)) (now (f .entry))) (rest (now (text .entry)) at line)) r (now (types .entry)) (now (types .exit)) (now (series .entry)) (now (series .exit)) ⌝ }
 {
     let here = skip(text, at, line);
@@ -311,8 +300,10 @@ fn finish(
             line: on,
         };
     }
-    copy(d, types);
-    copy(f, series);
+    let entries = d.len();
+    let coefficients = f.len();
+    words::copy(d, &mut types[..entries]);
+    words::copy(f, &mut series[..coefficients]);
     Parsed::Job { p, n, s }
 }
 

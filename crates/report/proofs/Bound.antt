@@ -1,9 +1,9 @@
 -- Every text fits: 10 digits for a word, so 11 bytes for a number with its space, at most 8 rows of 8 entries of 256 words.
-use mathlib.Core.Path.{_≡_, refl, sym, ap, _∙_, subst}
+use mathlib.Core.Path.{_≡_, refl, ap, _∙_}
 use mathlib.Core.List.{List, [], _∷_, _++_}
 use Prim.Native.Nat.{ℕ, zero, suc, _+_, _*_, _-_, _/_, _^_, _≤_, _<_}
 use native.Mathlib.Nat.{pow-suc, mul-le-mul-right, suc-mul, le-trans}
-use native.Mathlib.Decide.{decLt, decLe, ℕ-discrete}
+use native.Mathlib.Decide.{decLt, ℕ-discrete}
 use native.Mathlib.Omega.{arith}
 use lib.ListN.{length, getD, take, drop, length-append, List·getD-eq-default}
 use lib.ListN.{length-take}
@@ -11,12 +11,14 @@ use lib.Seq.{getD-take, getD-drop}
 use Rattle.io.specs.Digits.{digits}
 use Rattle.report.specs.Each.{each}
 use Rattle.report.specs.Decimal.{placesWithin, places, decimal, signed}
-use Rattle.report.specs.Entry.{part, trim, shown, degree}
+use Rattle.report.specs.Entry.{trim, shown, degree}
+use Rattle.words.specs.Part.{part}
+use Rattle.words.proofs.Part.{part-fits, part-length}
 use Rattle.report.specs.Text.{number, numbers, heading, entryText, entriesText, shiftedDegree, pivotLine, rowLine, rowLines, leastLine, basisText, refusalText}
 use Rattle.report.specs.Words.{relations, typed, row, space, least, refused, line}
 use Rattle.report.specs.Calls.{textBytes}
 use Rattle.report.proofs.Decimal.{few, many, signed-high, signed-low}
-use Rattle.report.proofs.Entry.{shown-zero, shown-front, trim-short, part-fits, part-length}
+use Rattle.report.proofs.Entry.{shown-zero, shown-front, trim-short}
 
 -- words of 32 bits; past the end there is 0
 abbrev pub Words : List ℕ → Type 0

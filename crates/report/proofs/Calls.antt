@@ -1,19 +1,17 @@
 -- The calls' tests and outcomes: what is known where no test holds, and that two outcomes of one call are the same.
-use mathlib.Core.Path.{_≡_, refl, sym, _∙_}
-use mathlib.Core.Logic.{_≢_, inl, inr}
-use mathlib.Core.List.{List, [], _∷_}
-use Prim.Native.Nat.{ℕ, _+_, _*_, _≤_, _<_}
-use native.Mathlib.Decide.{ℕ-discrete, decLe}
+use mathlib.Core.Path.{_≡_, sym, _∙_}
+use mathlib.Core.Logic.{inl, inr}
+use mathlib.Core.List.{List}
+use Prim.Native.Nat.{ℕ, _+_, _*_, _≤_}
+use native.Mathlib.Decide.{decLe}
 use native.Mathlib.Omega.{arith}
 use lib.ListN.{length}
-use Rattle.field.specs.Refusal.{Order, NoTest, Outcome}
+use Rattle.field.specs.Refusal.{Order, NoTest}
 use Rattle.field.specs.Answer.{Answer}
 use Rattle.field.proofs.Refusal.{same-outcome}
+use Rattle.field.proofs.Truth.{same-of}
 use Rattle.report.specs.Text.{basisText, refusalText}
 use Rattle.report.specs.Calls.{textBytes, basisOrder, refusalOrder, WriteOutcome, BasisOutcome, RefusalOutcome}
-
-equal : (a b : ℕ) → ¬ (a ≢ b) → a ≡ b
-equal a b h = elim (ℕ-discrete a b) [ yes e ↦ e | no e ↦ absurd (h e) ]
 
 pub record Passed (n s types words bytes : ℕ) : Type 0 where
   pub rows : n ≤ 8
@@ -27,9 +25,9 @@ unfolding NoTest
 basis-passed n s types words bytes h = record {
   rows = elim (decLe n 8) [ yes y ↦ y | no y ↦ absurd (h .0 (inr (omega arith))) ];
   order = elim (decLe s 255) [ yes y ↦ y | no y ↦ absurd (h .1 .0 (omega arith)) ];
-  typed = equal types n (λ e. h .1 .1 .0 (inl e));
-  filled = equal words (n * (n * (s + 1))) (λ e. h .1 .1 .0 (inr (inl e)));
-  room = equal bytes textBytes (λ e. h .1 .1 .0 (inr (inr e)));
+  typed = same-of types n (λ e. h .1 .1 .0 (inl e));
+  filled = same-of words (n * (n * (s + 1))) (λ e. h .1 .1 .0 (inr (inl e)));
+  room = same-of bytes textBytes (λ e. h .1 .1 .0 (inr (inr e)));
 }
 
 pub same-write : (o : Order) (text before after after′ : List ℕ) (said said′ : Answer) → WriteOutcome o text before after said → WriteOutcome o text before after′ said′

@@ -1,12 +1,11 @@
 -- Words without high zeros: a high zero changes nothing, and what is left stands in front.
-use mathlib.Core.Path.{_≡_, refl, sym, ap, _∙_}
+use mathlib.Core.Path.{_≡_, refl, ap, _∙_}
 use mathlib.Core.List.{List, [], _∷_, _++_}
-use Prim.Native.Nat.{ℕ, zero, suc, _+_, _*_, _-_, _≤_, _<_}
-use native.Mathlib.Nat.{suc-mul, mul-le-mul-right}
+use Prim.Native.Nat.{ℕ, zero, suc, _+_, _-_, _≤_, _<_}
 use native.Mathlib.Omega.{arith}
-use lib.ListN.{length, take, drop, getD, length-append, length-take, length-drop}
+use lib.ListN.{length, take, getD, length-append, length-take}
 use lib.Seq.{take-suc, length-take-le}
-use Rattle.report.specs.Entry.{part, keep, trim, orZero, shown}
+use Rattle.report.specs.Entry.{keep, trim, orZero, shown}
 
 trim-zero : (l : List ℕ) → trim (l ++ (0 ∷ [])) ≡ trim l
 unfolding trim keep
@@ -77,15 +76,3 @@ shown-front l e = go (trim l) e ∙ trim-front l
     go : (t : List ℕ) → (length t ≡ 0 → ⊥) → orZero t ≡ t
     go [] z = absurd (z refl)
     go (c ∷ t) z = refl
-
--- part k of n fits, and is what code lends as `&l[k * w..k * w + w]`
-pub part-fits : (n w k : ℕ) → k < n → k * w + w ≤ n * w
-part-fits n w k h = omega (arith, suc-mul k w, mul-le-mul-right {m = suc k} {n = n} w h)
-
-pub lent : (w k : ℕ) (l : List ℕ) → take (k * w + w - k * w) (drop (k * w) l) ≡ part w k l
-unfolding part
-lent w k l = let e : k * w + w - k * w ≡ w = omega arith in rw e
-
-pub part-length : (w k : ℕ) (l : List ℕ) → k * w + w ≤ length l → length (part w k l) ≡ w
-unfolding part
-part-length w k l h = length-take-le w (drop (k * w) l) (omega (arith, length-drop (k * w) l))

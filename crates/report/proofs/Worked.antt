@@ -2,10 +2,10 @@
 use mathlib.Core.Path.{_≡_, refl}
 use mathlib.Core.List.{List, [], _∷_, _++_}
 use Prim.Native.Nat.{ℕ}
-use Rattle.io.specs.Digits.{digits}
 use Rattle.report.specs.Each.{each}
 use Rattle.report.specs.Decimal.{placesWithin, places, decimal, signed}
-use Rattle.report.specs.Entry.{part, keep, trim, orZero, shown, degree}
+use Rattle.report.specs.Entry.{keep, trim, orZero, shown, degree}
+use Rattle.words.specs.Part.{part}
 use Rattle.report.specs.Text.{number, numbers, heading, entryText, entriesText, shiftedDegree, pivotLine, rowLine, rowLines, leastLine, basisText, refusalText}
 
 -- "relations 7 2 3 type 0 2"

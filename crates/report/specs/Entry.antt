@@ -1,11 +1,7 @@
 -- Entry: an entry's words without high zeros, as they are shown, and its degree.
 use mathlib.Core.List.{List, [], _∷_}
-use Prim.Native.Nat.{ℕ, zero, suc, _*_, _-_}
-use lib.ListN.{length, take, drop}
-
--- part k of words that are cut into parts of w: a row of a basis, an entry of a row
-unfoldable pub part : ℕ → ℕ → List ℕ → List ℕ
-part w k l = take w (drop (k * w) l)
+use Prim.Native.Nat.{ℕ, zero, suc, _-_}
+use lib.ListN.{length}
 
 -- c before what is left of the higher coefficients
 unfoldable pub keep : ℕ → List ℕ → List ℕ

@@ -1,11 +1,12 @@
 -- The text of a basis and of a refusal: the lines that `relations` prints, each with its end of line.
-use mathlib.Core.List.{List, [], _∷_, _++_}
-use Prim.Native.Nat.{ℕ, suc, _+_, _*_}
+use mathlib.Core.List.{List, _++_}
+use Prim.Native.Nat.{ℕ, _+_, _*_}
 use lib.IntN.{ℤ, pos, _-ℤ_}
 use lib.ListN.{length, getD}
 use Rattle.report.specs.Each.{each}
 use Rattle.report.specs.Decimal.{decimal, signed}
-use Rattle.report.specs.Entry.{part, shown, degree}
+use Rattle.report.specs.Entry.{shown, degree}
+use Rattle.words.specs.Part.{part}
 use Rattle.report.specs.Words.{relations, typed, row, space, bar, least, refused, line}
 
 -- a space and a number

@@ -1,17 +1,14 @@
 // The text of a basis: the lines that `relations` prints, written to a lent buffer. Each function appends its piece of text at a position and answers the next position.
 use field::Tested;
 ghost use mathlib.Core.Path.{_≡_};
-ghost use mathlib.Core.List.{_∷_, []};
-ghost use Prim.Native.Nat.{ℕ, _+_, _*_, _-_, _^_, _<_, _≤_};
-ghost use lib.IntN.{pos, _-ℤ_};
+ghost use Prim.Native.Nat.{_+_, _*_, _-_, _<_, _≤_};
 ghost use lib.ListN.{length};
 ghost use Rattle.field.specs.Calls.{Tests};
 ghost use Rattle.report.specs.Decimal.{decimal, signed};
-ghost use Rattle.report.specs.Each.{each};
-ghost use Rattle.report.specs.Entry.{part, trim, degree};
+ghost use Rattle.report.specs.Entry.{trim, degree};
 ghost use Rattle.report.specs.Text.{number, numbers, heading, entryText, entriesText, shiftedDegree, pivotLine, rowLine, rowLines, leastLine, basisText, refusalText};
 ghost use Rattle.report.specs.Wrote.{Room, Wrote};
-ghost use Rattle.report.specs.Calls.{textSays, basisOrder, refusalOrder, BasisOutcome, RefusalOutcome};
+ghost use Rattle.report.specs.Calls.{textSays, basisOrder, BasisOutcome, RefusalOutcome};
 
 // Every text fits: 11 bytes for each number, at 8 rows of 8 entries of 256 words.
 pub const TEXT: usize = 180_809;
@@ -25,16 +22,6 @@ fn wide(x: u32) -> u64
     ensures { λ r. ⌜ r ≡ x ⌝ }
 {
     x as u64
-}
-
-// Part k of words that are cut into parts of w.
-fn part_at(words: &[u32], k: usize, w: usize) -> &[u32]
-    requires { ⌜ k * w + w ≤ length (now words) ⌝ }
-    ensures { λ r. ⌜ now r ≡ part w k (now (words .entry)) ⌝ }
-{
-    let start = k * w;
-    let end = start + w;
-    &words[start..end]
 }
 
 pub fn put(text: &[u8], out: &mut [u8], at: usize) -> usize
@@ -136,7 +123,7 @@ fn put_entries(row: &[u32], n: usize, w: usize, out: &mut [u8], at: usize) -> us
     let mut next = at;
     let mut k = 0;
     while k < n {
-        next = put_entry(part_at(row, k, w), out, next);
+        next = put_entry(words::part_at(row, k, w), out, next);
         k += 1;
     }
     next
@@ -169,7 +156,7 @@ fn put_row(row: &[u32], i: usize, n: usize, w: usize, d: u32, out: &mut [u8], at
     requires { ⌜ (i < n) × (n ≤ 8) × (length (now row) ≡ n * w) × Room (rowLine n w d i (now row)) (now out) at ⌝ }
     ensures { λ r. ⌜ Wrote (rowLine n w d i (now (row .entry))) (now (out .entry)) at (now (out .exit)) r ⌝ }
 {
-    let pivot = degree_of(part_at(row, i, w));
+    let pivot = degree_of(words::part_at(row, i, w));
     put_line(row, i, n, w, pivot as u64, d, out, at)
 }
 
@@ -181,7 +168,7 @@ fn put_rows(n: usize, w: usize, d: &[u32], basis: &[u32], out: &mut [u8], at: us
     let mut next = at;
     let mut i = 0;
     while i < n {
-        next = put_row(part_at(basis, i, width), i, n, w, d[i], out, next);
+        next = put_row(words::part_at(basis, i, width), i, n, w, d[i], out, next);
         i += 1;
     }
     next

@@ -1,16 +1,17 @@
 -- A row of zeros with a 1 at the start of entry i is row i of the identity.
-use mathlib.Core.Path.{_≡_, refl, ap, sym, _∙_}
+use mathlib.Core.Path.{_≡_, sym, _∙_}
 use mathlib.Core.Logic.{_≢_}
 use mathlib.Core.List.{List}
-use Prim.Native.Nat.{ℕ, _+_, _*_, _≤_, _<_}
+use Prim.Native.Nat.{ℕ, _+_, _*_, _<_}
 use native.Mathlib.Nat.{add-zero}
 use native.Mathlib.Decide.{ℕ-discrete, decLt}
 use native.Mathlib.Omega.{arith}
 use lib.ListN.{length, set, length-set}
 use lib.Seq.{getD-set-same, getD-set-other}
 use Rattle.relation.proofs.Vector.{unit, unit-other, unit-high, unit-one}
-use Rattle.row.specs.View.{part, poly, vector}
-use Rattle.row.proofs.Part.{part-fits, part-before, part-at, row-ext, vector-high}
+use Rattle.row.specs.View.{poly, vector}
+use Rattle.words.proofs.Part.{part-fits, part-before}
+use Rattle.row.proofs.Part.{part-at, row-ext, vector-high}
 
 module _ (n w i : ℕ) (zs : List ℕ) (full : length zs ≡ n * w) (i<n : i < n) (0<w : 0 < w) (zero : (t : ℕ) → poly zs t ≡ 0) where
   -- entries do not meet

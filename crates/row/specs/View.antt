@@ -1,13 +1,10 @@
--- How words are read (document 01, "Buffers"): a list is cut into parts of equal length; a part is a polynomial, low coefficient first.
+-- How words are read (document 01, "Buffers"): a part is a polynomial, low coefficient first.
 use mathlib.Core.List.{List}
 use Prim.Native.Nat.{ℕ, _*_}
-use lib.ListN.{getD, take, drop}
+use lib.ListN.{getD}
+use Rattle.words.specs.Part.{part}
 use Rattle.relation.specs.Vector.{Vect}
 use Rattle.row.specs.declared.Degree.{Degree}
-
--- part k of a list that is cut into parts of w words
-unfoldable pub part : ℕ → ℕ → List ℕ → List ℕ
-part w k l = take w (drop (k * w) l)
 
 -- the coefficients of a list, and zero past its end
 unfoldable pub poly : List ℕ → ℕ → ℕ

@@ -1,25 +1,15 @@
 // Rows of polynomials as words: n entries of equal width, low coefficient first. Loops end at the pivot degrees.
 ghost use mathlib.Core.Path.{_≡_};
 ghost use Prim.Native.Nat.{ℕ, _+_, _*_, _-_, _%_, _<_, _≤_};
-ghost use lib.ListN.{length, getD};
+ghost use lib.ListN.{length};
 ghost use Rattle.relation.specs.Product.{conv, dot};
 ghost use Rattle.relation.proofs.Vector.{addMultiple, timesX, unit};
-ghost use Rattle.row.specs.View.{part, poly, vector, row, degreeAt};
+ghost use Rattle.row.specs.View.{poly, vector, row, degreeAt};
 ghost use Rattle.row.specs.Shape.{EndsAt, RowEndsAt, Below};
 use field::Field;
 
 // deg of document 000: the plain degree of an entry. It is never compared for the order of rows.
 pub struct Degree(pub usize);
-
-// Part k of words that are cut into parts of w.
-pub fn part_at(words: &[u32], k: usize, w: usize) -> &[u32]
-    requires { ⌜ k * w + w ≤ length (now words) ⌝ }
-    ensures { λ r. ⌜ now r ≡ part w k (now (words .entry)) ⌝ }
-{
-    let start = k * w;
-    let end = start + w;
-    &words[start..end]
-}
 
 // The sum, plus the coefficient of X^at in entry * series. The entry ends at its degree.
 pub fn plus_entry_product(
@@ -66,8 +56,8 @@ pub fn row_product(
         sum = plus_entry_product(
             f,
             sum,
-            part_at(row, k, width),
-            part_at(series, k, s),
+            words::part_at(row, k, width),
+            words::part_at(series, k, s),
             top,
             at,
         );
@@ -110,7 +100,13 @@ fn add_entries(
         let start = k * width;
         let end = start + width;
         let top = tops[k];
-        add_multiple(f, &mut row[start..end], part_at(from, k, width), c, top);
+        add_multiple(
+            f,
+            &mut row[start..end],
+            words::part_at(from, k, width),
+            c,
+            top,
+        );
         k += 1;
     }
 }
@@ -133,17 +129,6 @@ pub fn add_row_multiple(
 {
     if c % f.modulus != 0 {
         add_entries(f, row, from, c, tops, n, width);
-    }
-}
-
-pub fn copy(from: &[u32], into: &mut [u32])
-    requires { ⌜ length (now from) ≡ length (now into) ⌝ }
-    ensures { λ _. ⌜ now (into .exit) ≡ now (from .entry) ⌝ }
-{
-    let mut t = 0;
-    while t < from.len() {
-        into[t] = from[t];
-        t += 1;
     }
 }
 
@@ -170,7 +155,7 @@ pub fn row_times_x(row: &[u32], into: &mut [u32], n: usize, width: usize)
     while k < n {
         let start = k * width;
         let end = start + width;
-        times_x(part_at(row, k, width), &mut into[start..end]);
+        times_x(words::part_at(row, k, width), &mut into[start..end]);
         k += 1;
     }
 }

@@ -1,5 +1,5 @@
 -- The rows between the parts of a step: the cleared rows end where the rows did, the columns' sum does not see row i, and all parts together.
-use mathlib.Core.Path.{_≡_, refl, ap, sym, _∙_, fun-ext}
+use mathlib.Core.Path.{_≡_, ap, sym, _∙_, fun-ext}
 use mathlib.Core.Logic.{_≢_}
 use mathlib.Core.List.{List}
 use Prim.Native.Nat.{ℕ, zero, suc, _+_, _*_, _%_, _<_, _≤_}
@@ -11,9 +11,9 @@ use Rattle.relation.specs.Vector.{Vect}
 use Rattle.relation.proofs.Sum.{sum-ext}
 use Rattle.relation.proofs.Vector.{addMultiple, addMultiples, timesX, zero-addMultiple}
 use Rattle.relation.proofs.Step.{clearedRow, movedRow}
-use Rattle.row.specs.View.{part, vector, row}
+use Rattle.row.specs.View.{vector, row}
+use Rattle.words.proofs.Part.{put, put-same, put-other, part-fits}
 use Rattle.row.specs.Shape.{RowEndsAt, Below}
-use Rattle.row.proofs.Part.{put, put-same, put-other, part-fits}
 use Rattle.step.specs.Factor.{columnFactor, BasisShape, Moved}
 use Rattle.step.proofs.Columns.{factor-own}
 

@@ -1,15 +1,14 @@
 // From the reduced minimal basis of V_j to that of V_(j+1): document 000, Theorem 6, with the basis kept reduced at every order.
 ghost use mathlib.Core.Path.{_≡_};
 ghost use lib.Dec.{ltb};
-ghost use mathlib.Core.Logic.{_≢_, _⊎_};
+ghost use mathlib.Core.Logic.{_≢_};
 ghost use Prim.Native.Nat.{ℕ, _+_, _*_, _-_, _%_, _<_, _≤_};
 ghost use lib.ListN.{length, getD};
 ghost use Rattle.field.specs.Prime.{Prime};
 ghost use Rattle.relation.specs.Product.{dot};
 ghost use Rattle.relation.proofs.Vector.{addMultiple, addMultiples, unit};
 ghost use Rattle.relation.proofs.Basis.{ReducedBasis};
-ghost use Rattle.relation.proofs.Step.{FirstRow};
-ghost use Rattle.row.specs.View.{part, poly, vector, row as rowOf, degreeAt};
+ghost use Rattle.row.specs.View.{vector, row as rowOf, degreeAt};
 ghost use Rattle.row.specs.Shape.{RowEndsAt, Below};
 ghost use Rattle.step.specs.Shift.{shift, rowWeight, Nearer, TypeWords, TopsWithin};
 ghost use Rattle.step.specs.Search.{LeastAmong};
@@ -98,7 +97,7 @@ pub fn coefficients(
     let mut c = [0u32; 8];
     let mut l = 0;
     while l < n {
-        c[l] = row::row_product(f, row::part_at(basis, l, size), series, tops, n, s, at);
+        c[l] = row::row_product(f, words::part_at(basis, l, size), series, tops, n, s, at);
         l += 1;
     }
     c
@@ -161,7 +160,7 @@ pub fn clear_columns(
             let e = top.0;
             let at = k * width + e;
             let a = p - moved[at];
-            row::add_row_multiple(f, moved, row::part_at(basis, k, size), a, tops, n, width);
+            row::add_row_multiple(f, moved, words::part_at(basis, k, size), a, tops, n, width);
         }
         k += 1;
     }
@@ -192,7 +191,7 @@ fn move_by(
     let size = n * width;
     let start = i * size;
     let end = start + size;
-    row::copy(moved, &mut basis[start..end]);
+    words::copy(moved, &mut basis[start..end]);
 }
 
 // The same with working rows of its own. h is minus the inverse of row i's coefficient.
@@ -214,7 +213,7 @@ fn move_row(
     let size = n * width;
     let mut pivot = [0u32; 2048];
     let mut moved = [0u32; 2048];
-    row::copy(row::part_at(basis, i, size), &mut pivot[..size]);
+    words::copy(words::part_at(basis, i, size), &mut pivot[..size]);
     move_by(
         f,
         basis,

@@ -3,7 +3,8 @@
 use mathlib.Core.Logic.{inr}
 use Prim.Native.Nat.{ℕ, _+_, _*_, _-_, _≤_}
 use native.Mathlib.Omega.{arith}
-use Rattle.block.specs.Fault.{faults, FirstOrNone}
+use Rattle.block.specs.Fault.{faults}
+use Rattle.field.specs.Refusal.{FirstOrNone}
 use Rattle.block.proofs.Fault.{said-no, said-yes, faultsFrom, number-wrong-at, checks-wrong-at, passed-at, all-left, none-left}
 use Rattle.block.proofs.first_fault.Statement.{statement}
 use Rattle.block.proofs.first_fault.Tie as tie

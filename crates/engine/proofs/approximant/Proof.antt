@@ -1,10 +1,9 @@
 -- The basis at the order σ of the type, where the tests pass; a refusal writes nothing.
 use mathlib.Core.Path.{refl}
-use Rattle.field.proofs.Tests.{passed}
+use Rattle.field.proofs.Tests.{passed, answers, refuses}
 use Rattle.engine.specs.Approximant.{ApproximantOutcome}
 use Rattle.engine.proofs.Admitted.{approximant-sizes}
 use Rattle.engine.proofs.Work.{approximated-of}
-use Rattle.engine.proofs.Tests.{answers, refuses}
 use borrow.Author.Needs.{needs}
 use Rattle.engine.proofs.approximant.Statement.{statement}
 use Rattle.engine.proofs.approximant.Tie as tie

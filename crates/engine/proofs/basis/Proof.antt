@@ -1,9 +1,8 @@
 -- Where the tests pass, the basis is worked out; a refusal writes nothing.
 use mathlib.Core.Path.{refl}
-use Rattle.field.proofs.Tests.{passed}
+use Rattle.field.proofs.Tests.{passed, answers, refuses}
 use Rattle.engine.specs.Basis.{BasisOutcome}
 use Rattle.engine.proofs.Admitted.{basis-sizes}
-use Rattle.engine.proofs.Tests.{answers, refuses}
 use borrow.Author.Needs.{needs}
 use Rattle.engine.proofs.basis.Statement.{statement}
 use Rattle.engine.proofs.basis.Tie as tie

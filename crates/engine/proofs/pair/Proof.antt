@@ -1,9 +1,8 @@
 -- Where the tests pass, r and t are written; a refusal writes nothing.
 use mathlib.Core.Path.{refl}
-use Rattle.field.proofs.Tests.{passed}
+use Rattle.field.proofs.Tests.{passed, answers, refuses}
 use Rattle.engine.specs.Pair.{PairOutcome}
 use Rattle.engine.proofs.Admitted.{pair-sizes}
-use Rattle.engine.proofs.Tests.{answers, refuses}
 use borrow.Author.Needs.{needs}
 use Rattle.engine.proofs.pair.Statement.{statement}
 use Rattle.engine.proofs.pair.Tie as tie

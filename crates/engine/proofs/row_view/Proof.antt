@@ -4,7 +4,7 @@ use Prim.Native.Nat.{_+_, _*_, _-_}
 use native.Mathlib.Nat.{mul-le-mul}
 use native.Mathlib.Omega.{arith}
 use Rattle.field.proofs.Truth.{fails}
-use Rattle.row.proofs.Part.{part-fits}
+use Rattle.words.proofs.Part.{part-fits}
 use borrow.Author.Needs.{needs}
 use Rattle.engine.proofs.row_view.Statement.{statement}
 use Rattle.engine.proofs.row_view.Tie as tie

@@ -1,7 +1,6 @@
 -- The modulus and the number of series, then the rest.
-use Rattle.field.proofs.Tests.{passed}
+use Rattle.field.proofs.Tests.{passed, and-then, and-stop}
 use Rattle.engine.proofs.Admitted.{start-sizes}
-use Rattle.engine.proofs.Tests.{and-then, and-stop}
 use borrow.Author.Needs.{needs}
 use Rattle.engine.proofs.test_approximant.Statement.{statement}
 use Rattle.engine.proofs.test_approximant.Tie as tie

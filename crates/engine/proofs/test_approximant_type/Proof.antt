@@ -1,8 +1,8 @@
 -- The type's length and entries, then the rest.
 use native.Mathlib.Omega.{arith}
-use Rattle.field.proofs.Truth.{fails}
-use Rattle.engine.proofs.Admitted.{below}
-use Rattle.engine.proofs.Tests.{here, later, exact}
+use Rattle.field.proofs.Truth.{fails, exact}
+use Rattle.words.proofs.Some.{below}
+use Rattle.field.proofs.Tests.{here, later}
 use borrow.Author.Needs.{needs}
 use Rattle.engine.proofs.test_approximant_type.Statement.{statement}
 use Rattle.engine.proofs.test_approximant_type.Tie as tie

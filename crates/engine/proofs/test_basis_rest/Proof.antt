@@ -1,9 +1,9 @@
 -- The order, the lengths, the type's entries and the coefficients, in this order.
 use mathlib.Core.Logic.{inl, inr}
 use native.Mathlib.Omega.{arith}
-use Rattle.field.proofs.Truth.{fails}
-use Rattle.engine.proofs.Admitted.{series-small, basis-small}
-use Rattle.engine.proofs.Tests.{here, later, no-more, no-either, exact}
+use Rattle.field.proofs.Truth.{fails, no-either, exact}
+use Rattle.words.proofs.Sizes.{series-small, basis-small}
+use Rattle.field.proofs.Tests.{here, later, no-more}
 use borrow.Author.Needs.{needs}
 use Rattle.engine.proofs.test_basis_rest.Statement.{statement}
 use Rattle.engine.proofs.test_basis_rest.Tie as tie

@@ -1,6 +1,6 @@
 -- The modulus first, then the rest.
 use Rattle.field.proofs.Truth.{fails}
-use Rattle.engine.proofs.Tests.{here, later}
+use Rattle.field.proofs.Tests.{here, later}
 use borrow.Author.Needs.{needs}
 use Rattle.engine.proofs.test_pair.Statement.{statement}
 use Rattle.engine.proofs.test_pair.Tie as tie

@@ -1,8 +1,8 @@
 -- The order N, k, the lengths and the coefficients, in this order.
 use mathlib.Core.Logic.{inl, inr}
 use native.Mathlib.Omega.{arith}
-use Rattle.field.proofs.Truth.{fails}
-use Rattle.engine.proofs.Tests.{here, later, no-more, no-either, exact}
+use Rattle.field.proofs.Truth.{fails, no-either, exact}
+use Rattle.field.proofs.Tests.{here, later, no-more}
 use borrow.Author.Needs.{needs}
 use Rattle.engine.proofs.test_pair_rest.Statement.{statement}
 use Rattle.engine.proofs.test_pair_rest.Tie as tie

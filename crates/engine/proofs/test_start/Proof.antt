@@ -2,8 +2,8 @@
 use mathlib.Core.Logic.{inl, inr}
 use native.Mathlib.Omega.{arith}
 use borrow.Author.Tests.{not-true, not-false}
-use Rattle.field.proofs.Truth.{fails}
-use Rattle.engine.proofs.Tests.{here, later, no-more, no-either}
+use Rattle.field.proofs.Truth.{fails, no-either}
+use Rattle.field.proofs.Tests.{here, later, no-more}
 use borrow.Author.Needs.{needs}
 use Rattle.engine.proofs.test_start.Statement.{statement}
 use Rattle.engine.proofs.test_start.Tie as tie

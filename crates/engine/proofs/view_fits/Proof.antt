@@ -3,7 +3,7 @@ use Prim.Native.Nat.{_+_}
 use native.Mathlib.Nat.{mul-le-mul}
 use native.Mathlib.Omega.{arith}
 use Rattle.field.proofs.Truth.{shown, refuted}
-use Rattle.engine.proofs.Admitted.{basis-small}
+use Rattle.words.proofs.Sizes.{basis-small}
 use borrow.Author.Needs.{needs}
 use Rattle.engine.proofs.view_fits.Statement.{statement}
 use Rattle.engine.proofs.view_fits.Tie as tie

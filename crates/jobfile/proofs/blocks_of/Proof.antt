@@ -1,7 +1,7 @@
 -- The job has at most 2,051 words.
 use mathlib.Core.Path.{refl}
 use native.Mathlib.Omega.{arith}
-use Rattle.jobfile.proofs.Sizes.{series-small}
+use Rattle.words.proofs.Sizes.{series-small}
 use Rattle.block.specs.File.{blocksFor}
 use borrow.Author.Needs.{needs}
 use Rattle.jobfile.proofs.blocks_of.Statement.{statement}

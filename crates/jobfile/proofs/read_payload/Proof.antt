@@ -5,7 +5,7 @@ use native.Mathlib.Omega.{arith}
 use lib.ListN.{length, getD, length-set}
 use lib.Seq.{ext-getD}
 use Rattle.block.specs.Part.{payloadAt}
-use Rattle.jobfile.proofs.Filled.{one-more}
+use Rattle.words.proofs.Written.{below-turn}
 use Rattle.jobfile.proofs.Payload.{length-part, part-at}
 use Rattle.jobfile.proofs.read_payload.Statement.{statement}
 use Rattle.jobfile.proofs.read_payload.Tie as tie
@@ -40,7 +40,7 @@ loop-less c = omega arith
 loop-again : tie.Need-loop-again Inv-loop μ-loop
 loop-again c =
     let l = c .before .before .loop in
-    (omega arith, length-set (l .out) (l .i) _ ∙ l .inv .1, one-more _ (l .out) (l .i) _ (omega arith) (c .payload-word .ensures) (l .inv .2))
+    (omega arith, length-set (l .out) (l .i) _ ∙ l .inv .1, below-turn _ (l .out) (l .i) _ (omega arith) (c .payload-word .ensures) (l .inv .2))
 
 same-length : tie.Need-same-length Inv-loop μ-loop
 same-length c = omega arith

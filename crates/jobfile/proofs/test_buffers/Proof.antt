@@ -1,9 +1,9 @@
 -- The lengths are tested first, then the type entries, then the coefficients.
 use mathlib.Core.Logic.{inl, inr}
 use native.Mathlib.Omega.{arith}
-use Rattle.jobfile.proofs.Tests.{here, later, no-more, no-either, exact}
-use Rattle.field.proofs.Truth.{fails}
-use Rattle.jobfile.proofs.Sizes.{series-small}
+use Rattle.field.proofs.Tests.{here, later, no-more}
+use Rattle.words.proofs.Sizes.{series-small}
+use Rattle.field.proofs.Truth.{fails, no-either, exact}
 use borrow.Author.Needs.{needs}
 use Rattle.jobfile.proofs.test_buffers.Statement.{statement}
 use Rattle.jobfile.proofs.test_buffers.Tie as tie

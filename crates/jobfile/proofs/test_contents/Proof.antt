@@ -1,10 +1,11 @@
 -- The count of blocks is tested first, then the spare words, the type entries and the coefficients, all of which then lie in the file.
 use mathlib.Core.Path.{sym, _∙_}
 use native.Mathlib.Omega.{arith}
-use Rattle.jobfile.proofs.Tests.{here, later, no-more, exact}
-use Rattle.field.proofs.Truth.{fails}
+use Rattle.field.proofs.Tests.{here, later, no-more}
+use Rattle.words.proofs.Sizes.{series-small}
+use Rattle.field.proofs.Truth.{fails, exact}
 use Rattle.jobfile.specs.Payload.{spareIn}
-use Rattle.jobfile.proofs.Sizes.{series-small, fits}
+use Rattle.jobfile.proofs.Sizes.{fits}
 use Rattle.jobfile.proofs.Payload.{spare-some, spare-zero}
 use borrow.Author.Needs.{needs}
 use Rattle.jobfile.proofs.test_contents.Statement.{statement}

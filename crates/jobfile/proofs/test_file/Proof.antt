@@ -1,8 +1,8 @@
 -- The lengths, then the faults of the blocks, then the words.
 use mathlib.Core.Path.{refl}
 use native.Mathlib.Omega.{arith}
-use Rattle.field.proofs.Tests.{passed}
-use Rattle.jobfile.proofs.Tests.{and-then, and-stop, fault-found, fault-none}
+use Rattle.field.proofs.Tests.{passed, and-then, and-stop}
+use Rattle.jobfile.proofs.Faults.{fault-found, fault-none}
 use Rattle.jobfile.proofs.Passed.{lengths-fit}
 use borrow.Author.Needs.{needs}
 use Rattle.jobfile.proofs.test_file.Statement.{statement}

@@ -1,6 +1,5 @@
 -- The sizes, then the buffers.
-use Rattle.field.proofs.Tests.{passed}
-use Rattle.jobfile.proofs.Tests.{and-then, and-stop}
+use Rattle.field.proofs.Tests.{passed, and-then, and-stop}
 use Rattle.jobfile.proofs.Passed.{sizes-fit}
 use borrow.Author.Needs.{needs}
 use Rattle.jobfile.proofs.test_job.Statement.{statement}

@@ -1,7 +1,8 @@
 -- The lent buffers are tested first, then the length of the file.
 use mathlib.Core.Logic.{inl, inr}
 use native.Mathlib.Omega.{arith}
-use Rattle.jobfile.proofs.Tests.{here, later, no-more, no-either, exact}
+use Rattle.field.proofs.Tests.{here, later, no-more}
+use Rattle.field.proofs.Truth.{no-either, exact}
 use Rattle.jobfile.proofs.test_lengths.Statement.{statement}
 use Rattle.jobfile.proofs.test_lengths.Tie as tie
 

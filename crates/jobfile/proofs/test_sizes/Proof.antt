@@ -1,9 +1,9 @@
 -- The modulus is tested first, then the number of series, then the order.
 use mathlib.Core.Logic.{inl, inr}
 use native.Mathlib.Omega.{arith}
-use Rattle.jobfile.proofs.Tests.{here, later, no-more, no-either}
+use Rattle.field.proofs.Tests.{here, later, no-more}
 use borrow.Author.Tests.{not-true, not-false}
-use Rattle.field.proofs.Truth.{fails}
+use Rattle.field.proofs.Truth.{fails, no-either}
 use borrow.Author.Needs.{needs}
 use Rattle.jobfile.proofs.test_sizes.Statement.{statement}
 use Rattle.jobfile.proofs.test_sizes.Tie as tie

@@ -9,7 +9,7 @@ use lib.Seq.{length-take-le}
 use Rattle.jobfile.proofs.LaidOut.{blocks-few, length-words}
 use Rattle.jobfile.specs.Job.{jobOf}
 use Rattle.jobfile.proofs.Written.{written}
-use Rattle.jobfile.proofs.Sizes.{series-small}
+use Rattle.words.proofs.Sizes.{series-small}
 use borrow.Author.Needs.{needs}
 use Rattle.jobfile.proofs.write_tested.Statement.{statement}
 use Rattle.jobfile.proofs.write_tested.Tie as tie

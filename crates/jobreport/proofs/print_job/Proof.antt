@@ -5,13 +5,12 @@ use Prim.Native.Nat.{_+_, _*_, _≤_}
 use native.Mathlib.Omega.{arith}
 use lib.ListN.{take, length-take, length-replicate}
 use lib.Seq.{length-take-le}
-use Rattle.row.proofs.Part.{row-words}
+use Rattle.words.proofs.Sizes.{row-small, series-small, basis-small}
 use Rattle.engine.specs.Words.{basisLength}
 use Rattle.jobfile.specs.Job.{Admitted, jobOf}
 use Rattle.jobfile.specs.Layout.{layout}
 use Rattle.report.specs.Calls.{RefusalOutcome}
 use Rattle.jobreport.specs.Printed.{PrintOutcome, JobPrintOutcome}
-use Rattle.engine.proofs.Admitted.{series-small, basis-small}
 use Rattle.jobfile.specs.Answers.{jobSays}
 use Rattle.report.specs.Text.{refusalText}
 use Rattle.jobreport.proofs.Print.{read-refused, read-job}
@@ -73,7 +72,7 @@ add-words : tie.Need-add-words
 add-words c = search needs
 
 mul-words : tie.Need-mul-words
-mul-words c = omega (arith, few c, row-words (c .before .p .given .0 .1 .0) (c .before .p .given .0 .1 .1 .0 + 1) (few c .0) (omega (arith, few c)))
+mul-words c = omega (arith, few c, row-small (c .before .p .given .0 .1 .0) (c .before .p .given .0 .1 .1 .0 + 1) (few c .0) (omega (arith, few c)))
 
 mul-words-2 : tie.Need-mul-words-2
 mul-words-2 c = omega (arith, few c)

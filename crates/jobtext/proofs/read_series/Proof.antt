@@ -58,7 +58,8 @@ finish-requires c κs =
     let a0 = c .before .before .before .before .before .before .before .before .before .before .before .pre in
     let v = c .before .before .before .before .before .before .before .read-numbers .last .1 .1 .1 .1 .1 .0 in
     let e = lent-zeros 2040 (a .n * a .s) (size-fits (a .n) (a .s) (a0 .1) (a0 .2)) ∙ sym (c .before .before .before .before .before .before .before .read-numbers .kept .1 .1 .1 .1 .1 .0) in
-    ((filled-to _ _ _ _ _ (c .before .before .before .before .after .given .1) (c .before .before .before .before .before .before .before .read-numbers .ensures)) .0, a0 .3, front-most v _ (a .n * a .s) e 2040 (size-fits (a .n) (a .s) (a0 .1) (a0 .2)))
+    let m : length (a .series .now) ≡ 2040 = omega arith in
+    ((filled-to _ _ _ _ _ (c .before .before .before .before .after .given .1) (c .before .before .before .before .before .before .before .read-numbers .ensures)) .0, omega (arith, a0 .3), rw m (front-most v _ (a .n * a .s) e 2040 (size-fits (a .n) (a .s) (a0 .1) (a0 .2))))
 
 enum-known-slip : tie.Need-enum-known-slip
 enum-known-slip c = search needs

@@ -1,13 +1,12 @@
 -- `put_entries` meets its contract: an entry in each turn.
 use mathlib.Core.Path.{_≡_, sym, ap}
-use Prim.Native.Nat.{ℕ, _-_, _≤_}
+use Prim.Native.Nat.{_-_, _≤_}
 use native.Mathlib.Omega.{arith}
-use lib.ListN.{length}
 use Rattle.report.specs.Each.{each}
-use Rattle.report.specs.Entry.{part}
+use Rattle.words.specs.Part.{part}
+use Rattle.words.proofs.Part.{part-fits}
 use Rattle.report.specs.Text.{entryText, entriesText}
 use Rattle.report.specs.Wrote.{Wrote}
-use Rattle.report.proofs.Entry.{part-fits}
 use Rattle.report.proofs.Wrote.{wrote-none, wrote-each, room-each, wrote-length, room-same, wrote-same}
 use Rattle.report.proofs.put_entries.Statement.{statement}
 use Rattle.report.proofs.put_entries.Tie as tie

@@ -3,9 +3,10 @@ use mathlib.Core.Path.{_≡_, sym, ap, _∙_}
 use mathlib.Core.List.{List}
 use Prim.Native.Nat.{ℕ}
 use native.Mathlib.Omega.{arith}
-use Rattle.report.specs.Entry.{part, degree}
+use Rattle.report.specs.Entry.{degree}
+use Rattle.words.specs.Part.{part}
+use Rattle.words.proofs.Part.{part-fits}
 use Rattle.report.specs.Text.{pivotLine, rowLine}
-use Rattle.report.proofs.Entry.{part-fits}
 use Rattle.report.proofs.Wrote.{room-same, wrote-same}
 use borrow.Author.Needs.{needs}
 use Rattle.report.proofs.put_row.Statement.{statement}

@@ -1,15 +1,14 @@
 -- `put_rows` meets its contract: a row in each turn.
 use mathlib.Core.Path.{_≡_, sym, ap, _∙_}
-use mathlib.Core.List.{List}
-use Prim.Native.Nat.{ℕ, _*_, _-_, _≤_}
+use Prim.Native.Nat.{_*_, _-_, _≤_}
 use native.Mathlib.Omega.{arith}
 use lib.ListN.{length, getD}
 use Rattle.report.specs.Each.{each}
-use Rattle.report.specs.Entry.{part}
+use Rattle.words.specs.Part.{part}
+use Rattle.words.proofs.Part.{part-fits, part-length}
 use Rattle.report.specs.Text.{rowLine, rowLines}
 use Rattle.report.specs.Wrote.{Wrote}
 use Rattle.report.proofs.Bound.{width-most}
-use Rattle.report.proofs.Entry.{part-fits, part-length}
 use Rattle.report.proofs.Wrote.{wrote-none, wrote-each, room-each, wrote-length, room-same, wrote-same}
 use Rattle.report.proofs.put_rows.Statement.{statement}
 use Rattle.report.proofs.put_rows.Tie as tie

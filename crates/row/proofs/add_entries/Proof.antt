@@ -3,8 +3,9 @@ use mathlib.Core.Path.{_≡_, _∙_}
 use Prim.Native.Nat.{ℕ, _+_, _*_, _-_, _≤_, _<_}
 use native.Mathlib.Omega.{arith}
 use Rattle.row.specs.View.{poly, vector}
-use Rattle.row.proofs.Part.{part-fits, part-length, lent-length, lent-poly, row-ext, vector-out}
-use Rattle.row.proofs.Written.{PartsDone, parts-none, parts-turn}
+use Rattle.row.proofs.Part.{lent-poly, row-ext, vector-out}
+use Rattle.words.proofs.Part.{part-fits, part-length, lent-length}
+use Rattle.words.proofs.Written.{PartsDone, parts-none, parts-turn}
 use Rattle.relation.proofs.Vector.{addMultiple, zero-addMultiple}
 use Rattle.row.proofs.add_entries.Statement.{statement}
 use Rattle.row.proofs.add_entries.Tie as tie

@@ -5,7 +5,7 @@ use native.Mathlib.Omega.{arith}
 use native.Mathlib.Nat.{add-zero, mul-zero, mod-eq-of-lt}
 use native.Mathlib.Decide.{decLt}
 use Rattle.row.specs.View.{poly}
-use Rattle.row.proofs.Written.{Written, written-none, written-turn}
+use Rattle.words.proofs.Written.{Written, written-none, written-turn}
 use Rattle.row.proofs.add_multiple.Statement.{statement}
 use Rattle.row.proofs.add_multiple.Tie as tie
 
@@ -58,6 +58,7 @@ same-length : tie.Need-same-length Inv-loop μ-loop
 same-length c = omega arith
 
 returns : tie.Need-returns Inv-loop μ-loop
+unfolding poly
 returns c =
     let l = c .before .loop in
     let pre = c .before .before .before .before .before .pre in (

@@ -6,7 +6,7 @@ use lib.ListN.{length}
 use native.Mathlib.Decide.{decLt}
 use Rattle.row.specs.View.{poly}
 use Rattle.row.proofs.Part.{poly-past}
-use Rattle.row.proofs.Written.{Written, written-none, written-turn}
+use Rattle.words.proofs.Written.{Written, written-none, written-turn}
 use Rattle.row.proofs.fill_zero.Statement.{statement}
 use Rattle.row.proofs.fill_zero.Tie as tie
 
@@ -41,6 +41,7 @@ same-length : tie.Need-same-length Inv-loop μ-loop
 same-length c = omega arith
 
 returns : tie.Need-returns Inv-loop μ-loop
+unfolding poly
 returns c =
     let l = c .before .loop in
     (l .inv .1 .same, λ k. elim (decLt k (l .t)) [ yes h ↦ l .inv .1 .done k h | no h ↦ poly-past (l .into) k (omega arith) ])

@@ -4,7 +4,7 @@ use Prim.Native.Nat.{_+_, _-_, _%_, _≤_, _<_}
 use native.Mathlib.Nat.{zero-add, zero-mod, mod-lt}
 use native.Mathlib.Omega.{arith}
 use Rattle.row.specs.View.{vector}
-use Rattle.row.proofs.Part.{part-fits, part-length}
+use Rattle.words.proofs.Part.{part-fits, part-length}
 use Rattle.row.proofs.Turn.{sum-turn}
 use Rattle.relation.specs.Sum.{sumTo}
 use Rattle.relation.specs.Product.{conv, dot}

@@ -4,9 +4,10 @@ use Prim.Native.Nat.{ℕ, _+_, _*_, _-_, _≤_}
 use native.Mathlib.Omega.{arith}
 use lib.ListN.{length}
 use Rattle.row.specs.View.{poly, vector}
-use Rattle.row.proofs.Part.{part-fits, part-length, lent-length, row-ext, vector-out}
+use Rattle.row.proofs.Part.{row-ext, vector-out}
+use Rattle.words.proofs.Part.{part-fits, part-length, lent-length}
+use Rattle.words.proofs.Written.{PartsDone, parts-none, parts-turn}
 use Rattle.row.proofs.TimesX.{times-x-entry, times-x-zero}
-use Rattle.row.proofs.Written.{PartsDone, parts-none, parts-turn}
 use Rattle.relation.proofs.Vector.{timesX}
 use Rattle.row.proofs.row_times_x.Statement.{statement}
 use Rattle.row.proofs.row_times_x.Tie as tie

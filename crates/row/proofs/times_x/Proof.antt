@@ -8,7 +8,7 @@ use lib.Seq.{getD-set-same}
 use Rattle.row.specs.View.{poly}
 use Rattle.row.proofs.Part.{poly-past}
 use Rattle.row.proofs.TimesX.{times-x-at, times-x-end}
-use Rattle.row.proofs.Written.{Written, written-turn}
+use Rattle.words.proofs.Written.{Written, written-turn}
 use Rattle.relation.proofs.Vector.{timesX}
 use Rattle.row.proofs.times_x.Statement.{statement}
 use Rattle.row.proofs.times_x.Tie as tie
@@ -66,6 +66,7 @@ same-length : tie.Need-same-length Inv-loop μ-loop
 same-length c = omega (arith, length-set (c .before .before .args .into .now) 0 0)
 
 returns : tie.Need-returns Inv-loop μ-loop
+unfolding poly
 returns c =
     let l = c .before .loop in
     let start = c .before .before in

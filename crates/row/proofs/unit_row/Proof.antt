@@ -2,7 +2,7 @@
 use mathlib.Core.Path.{_∙_}
 use native.Mathlib.Omega.{arith}
 use lib.ListN.{length-set}
-use Rattle.row.proofs.Part.{part-fits}
+use Rattle.words.proofs.Part.{part-fits}
 use Rattle.row.proofs.Unit.{unit-words}
 use borrow.Author.Needs.{needs}
 use Rattle.row.proofs.unit_row.Statement.{statement}

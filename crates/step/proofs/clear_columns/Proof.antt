@@ -7,7 +7,8 @@ use native.Mathlib.Omega.{arith}
 use lib.ListN.{length}
 use Rattle.row.specs.View.{vector, row, degreeAt}
 use Rattle.relation.proofs.Vector.{addMultiples}
-use Rattle.row.proofs.Part.{part-fits, part-length, vector-at}
+use Rattle.row.proofs.Part.{vector-at}
+use Rattle.words.proofs.Part.{part-fits, part-length}
 use Rattle.step.specs.Factor.{columnFactor}
 use Rattle.step.proofs.Columns.{addMultiples-below, addMultiples-start, still, add-turn, skip-turn}
 use Rattle.step.proofs.clear_columns.Statement.{statement}

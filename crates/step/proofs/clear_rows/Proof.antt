@@ -4,10 +4,11 @@ use mathlib.Core.Logic.{_≢_, ⊎-elim}
 use Prim.Native.Nat.{_+_, _*_, _-_, _≤_}
 use native.Mathlib.Omega.{arith}
 use lib.ListN.{getD, take, drop}
-use Rattle.row.specs.View.{part, vector, row}
+use Rattle.row.specs.View.{vector, row}
+use Rattle.words.specs.Part.{part}
+use Rattle.words.proofs.Part.{part-fits, lent-length, lent}
+use Rattle.words.proofs.Written.{PartsDone, parts-none, parts-turn, parts-skip}
 use Rattle.relation.proofs.Vector.{addMultiple}
-use Rattle.row.proofs.Part.{part-fits, lent-length, lent}
-use Rattle.row.proofs.Written.{PartsDone, parts-none, parts-turn, parts-skip}
 use Rattle.step.specs.Factor.{factor}
 use Rattle.step.proofs.clear_rows.Statement.{statement}
 use Rattle.step.proofs.clear_rows.Tie as tie

@@ -5,8 +5,8 @@ use native.Mathlib.Omega.{arith}
 use lib.ListN.{length, getD, length-set}
 use Rattle.row.specs.View.{poly, vector, row}
 use Rattle.relation.specs.Product.{dot}
-use Rattle.row.proofs.Part.{part-fits, part-length}
-use Rattle.row.proofs.Written.{below-turn}
+use Rattle.words.proofs.Part.{part-fits, part-length}
+use Rattle.words.proofs.Written.{below-turn}
 use Rattle.step.proofs.coefficients.Statement.{statement}
 use Rattle.step.proofs.coefficients.Tie as tie
 

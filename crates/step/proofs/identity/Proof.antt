@@ -4,8 +4,9 @@ use Prim.Native.Nat.{_*_, _-_, _≤_}
 use native.Mathlib.Omega.{arith}
 use Rattle.relation.proofs.Vector.{unit}
 use Rattle.row.specs.View.{vector, row}
-use Rattle.row.proofs.Part.{row-words, part-fits, lent-length}
-use Rattle.row.proofs.Written.{PartsDone, parts-none, parts-turn}
+use Rattle.words.proofs.Sizes.{row-small}
+use Rattle.words.proofs.Part.{part-fits, lent-length}
+use Rattle.words.proofs.Written.{PartsDone, parts-none, parts-turn}
 use Rattle.step.proofs.identity.Statement.{statement}
 use Rattle.step.proofs.identity.Tie as tie
 
@@ -16,7 +17,7 @@ abbrev μ-loop : tie.MeasureT-loop
 μ-loop basis₀ n width size l₀ basis l = n - l
 
 mul-size : tie.Need-mul-size Inv-loop μ-loop
-mul-size c = omega (arith, row-words (c .before .args .n) (c .before .args .width) (omega arith) (omega arith))
+mul-size c = omega (arith, row-small (c .before .args .n) (c .before .args .width) (omega arith) (omega arith))
 
 loop-holds : tie.Need-loop-holds Inv-loop μ-loop
 loop-holds c = (omega arith, parts-none _ _ _)

@@ -5,7 +5,8 @@ use Prim.Native.Nat.{ℕ, _*_, _<_}
 use native.Mathlib.Omega.{arith}
 use lib.ListN.{length}
 use Rattle.row.specs.View.{vector}
-use Rattle.row.proofs.Part.{row-words, part-fits, put-length}
+use Rattle.words.proofs.Sizes.{row-small}
+use Rattle.words.proofs.Part.{part-fits, put-length}
 use Rattle.step.proofs.Move.{cleared-ends, cleared-clear, moved-all, times-x-below}
 use borrow.Author.Needs.{needs}
 use Rattle.step.proofs.move_by.Statement.{statement}
@@ -49,22 +50,22 @@ clear-columns-requires c κs =
     )
 
 mul-size : tie.Need-mul-size
-mul-size c = omega (arith, row-words (c .before .before .before .before .before .before .before .before .before .before .before .before .before .before .before .before .args .n) (c .before .before .before .before .before .before .before .before .before .before .before .before .before .before .before .before .args .width) (omega arith) (omega arith))
+mul-size c = omega (arith, row-small (c .before .before .before .before .before .before .before .before .before .before .before .before .before .before .before .before .args .n) (c .before .before .before .before .before .before .before .before .before .before .before .before .before .before .before .before .args .width) (omega arith) (omega arith))
 
 mul-start : tie.Need-mul-start
 mul-start c =
     let args = c .before .before .before .before .before .before .before .before .before .before .before .before .before .before .before .before .args in
-    omega (arith, row-words (args .n) (args .width) (omega arith) (omega arith), part-fits (args .n) (args .n * args .width) (args .i) (omega arith), c .before .before .before .before .before .before .before .before .before .before .before .clear-rows .ensures .0)
+    omega (arith, row-small (args .n) (args .width) (omega arith) (omega arith), part-fits (args .n) (args .n * args .width) (args .i) (omega arith), c .before .before .before .before .before .before .before .before .before .before .before .clear-rows .ensures .0)
 
 add-end : tie.Need-add-end
 add-end c =
     let args = c .before .before .before .before .before .before .before .before .before .before .before .before .before .before .before .before .args in
-    omega (arith, row-words (args .n) (args .width) (omega arith) (omega arith), part-fits (args .n) (args .n * args .width) (args .i) (omega arith), c .before .before .before .before .before .before .before .before .before .before .before .clear-rows .ensures .0)
+    omega (arith, row-small (args .n) (args .width) (omega arith) (omega arith), part-fits (args .n) (args .n * args .width) (args .i) (omega arith), c .before .before .before .before .before .before .before .before .before .before .before .clear-rows .ensures .0)
 
 mul-copy : tie.Need-mul-copy
 mul-copy c =
     let args = c .before .before .before .before .before .before .before .before .before .before .before .before .before .before .before .before .before .args in
-    omega (arith, row-words (args .n) (args .width) (omega arith) (omega arith), part-fits (args .n) (args .n * args .width) (args .i) (omega arith), c .before .before .before .before .before .before .before .before .before .before .before .before .clear-rows .ensures .0)
+    omega (arith, row-small (args .n) (args .width) (omega arith) (omega arith), part-fits (args .n) (args .n * args .width) (args .i) (omega arith), c .before .before .before .before .before .before .before .before .before .before .before .before .clear-rows .ensures .0)
 
 sub-copy : tie.Need-sub-copy
 sub-copy c = search needs
@@ -75,7 +76,7 @@ part-copy-start c = search needs
 part-copy-end : tie.Need-part-copy-end
 part-copy-end c =
     let args = c .before .before .before .before .before .before .before .before .before .before .before .before .before .before .before .before .before .args in
-    omega (arith, row-words (args .n) (args .width) (omega arith) (omega arith), part-fits (args .n) (args .n * args .width) (args .i) (omega arith), c .before .before .before .before .before .before .before .before .before .before .before .before .clear-rows .ensures .0)
+    omega (arith, row-small (args .n) (args .width) (omega arith) (omega arith), part-fits (args .n) (args .n * args .width) (args .i) (omega arith), c .before .before .before .before .before .before .before .before .before .before .before .before .clear-rows .ensures .0)
 
 copy-requires : tie.Need-copy-requires
 copy-requires c κs = search needs

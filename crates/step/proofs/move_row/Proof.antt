@@ -6,7 +6,8 @@ use native.Mathlib.Omega.{arith}
 use lib.ListN.{length, take, length-append}
 use lib.Seq.{length-take-le, take-at}
 use Rattle.row.specs.View.{row as rowOf}
-use Rattle.row.proofs.Part.{row-words, part-fits, part-length}
+use Rattle.words.proofs.Sizes.{row-small}
+use Rattle.words.proofs.Part.{part-fits, part-length}
 use borrow.Author.Needs.{needs}
 use Rattle.step.proofs.move_row.Statement.{statement}
 use Rattle.step.proofs.move_row.Tie as tie
@@ -24,7 +25,7 @@ pivot-is : (c : tie.After-copy) (rest : List ℕ) → take (c .before .before .b
 pivot-is c rest = take-at (c .copy .last .1 .0) rest _ (filled c)
 
 mul-size : tie.Need-mul-size
-mul-size c = omega (arith, row-words (c .before .args .n) (c .before .args .width) (omega arith) (omega arith))
+mul-size c = omega (arith, row-small (c .before .args .n) (c .before .args .width) (omega arith) (omega arith))
 
 part-at-requires : tie.Need-part-at-requires
 part-at-requires c κs =
@@ -32,13 +33,13 @@ part-at-requires c κs =
     omega (arith, part-fits (args .n) (args .n * args .width) (args .i) (omega arith))
 
 array-borrow-prefix-pivot : tie.Need-array-borrow-prefix-pivot
-array-borrow-prefix-pivot c = row-words (c .before .before .before .args .n) (c .before .before .before .args .width) (omega arith) (omega arith)
+array-borrow-prefix-pivot c = row-small (c .before .before .before .args .n) (c .before .before .before .args .width) (omega arith) (omega arith)
 
 slice-aggregate-copy : tie.Need-slice-aggregate-copy
-slice-aggregate-copy c = sym (length-take-le _ _ (row-words (c .before .before .before .before .args .n) (c .before .before .before .before .args .width) (omega arith) (omega arith)))
+slice-aggregate-copy c = sym (length-take-le _ _ (row-small (c .before .before .before .before .args .n) (c .before .before .before .before .args .width) (omega arith) (omega arith)))
 
 copy-requires : tie.Need-copy-requires
-copy-requires c κs = copied-length (c .before) ∙ sym (length-take-le _ _ (row-words (c .before .before .before .before .args .n) (c .before .before .before .before .args .width) (omega arith) (omega arith)))
+copy-requires c κs = copied-length (c .before) ∙ sym (length-take-le _ _ (row-small (c .before .before .before .before .args .n) (c .before .before .before .before .args .width) (omega arith) (omega arith)))
 
 array-share-prefix-pivot : tie.Need-array-share-prefix-pivot
 array-share-prefix-pivot c = simp length-append (omega (arith, filled (c .before .before)))
@@ -47,17 +48,17 @@ slice-aggregate-move-by : tie.Need-slice-aggregate-move-by
 slice-aggregate-move-by c = sym (ap length (pivot-is (c .before .before .before) _) ∙ filled (c .before .before .before))
 
 array-borrow-prefix-moved : tie.Need-array-borrow-prefix-moved
-array-borrow-prefix-moved c = row-words (c .before .before .before .before .before .before .before .before .args .n) (c .before .before .before .before .before .before .before .before .args .width) (omega arith) (omega arith)
+array-borrow-prefix-moved c = row-small (c .before .before .before .before .before .before .before .before .args .n) (c .before .before .before .before .before .before .before .before .args .width) (omega arith) (omega arith)
 
 slice-aggregate-move-by-2 : tie.Need-slice-aggregate-move-by-2
-slice-aggregate-move-by-2 c = sym (length-take-le _ _ (row-words (c .before .before .before .before .before .before .before .before .before .args .n) (c .before .before .before .before .before .before .before .before .before .args .width) (omega arith) (omega arith)))
+slice-aggregate-move-by-2 c = sym (length-take-le _ _ (row-small (c .before .before .before .before .before .before .before .before .before .args .n) (c .before .before .before .before .before .before .before .before .before .args .width) (omega arith) (omega arith)))
 
 move-by-requires : tie.Need-move-by-requires
 unfolding rowOf
 move-by-requires c κs =
     let start = c .before .before .before .before .before .before .before .before .before in
     let copied = c .before .before .before .before in (
-      (omega arith, omega arith, omega arith, omega arith, start .pre .0 .4, ap length (pivot-is copied _) ∙ filled copied, length-take-le _ _ (row-words (c .before .before .before .before .before .before .before .before .before .args .n) (c .before .before .before .before .before .before .before .before .before .args .width) (omega arith) (omega arith))),
+      (omega arith, omega arith, omega arith, omega arith, start .pre .0 .4, ap length (pivot-is copied _) ∙ filled copied, length-take-le _ _ (row-small (c .before .before .before .before .before .before .before .before .before .args .n) (c .before .before .before .before .before .before .before .before .before .args .width) (omega arith) (omega arith))),
       (start .pre .1 .0, (start .pre .1 .1, rw (pivot-is copied _, copied .copy .ensures, copied .before .before .part-at .ensures))),
     )
 

@@ -4,7 +4,7 @@ use mathlib.Core.Path.{refl}
 use mathlib.Core.Logic.{inl, inr}
 use native.Mathlib.Omega.{arith}
 use Rattle.field.specs.Calls.{InvertOutcome}
-use Rattle.field.proofs.Tests.{passed, says-answer, says-refusal, operand-passed}
+use Rattle.field.proofs.Tests.{passed, answers, refuses, operand-passed}
 use Rattle.field.proofs.Field.invert.Statement.{statement}
 use Rattle.field.proofs.Field.invert.Tie as tie
 
@@ -24,17 +24,17 @@ enum-known-k c = search needs
 
 returns : tie.Need-returns
 unfolding InvertOutcome
-returns c = says-answer _ _ _ _ (c .before .before .before .test-operand .ensures) (c .before .enum-told .given .1) (inl (c .if1 .taken, refl))
+returns c = answers _ _ _ _ (c .before .before .before .test-operand .ensures) (c .before .enum-told .given .1) (inl (c .if1 .taken, refl))
 
 returns-2 : tie.Need-returns-2
 unfolding InvertOutcome
 returns-2 c =
-    says-answer _ _ _ _ (c .before .before .before .before .test-operand .ensures) (c .before .before .enum-told .given .1)
+    answers _ _ _ _ (c .before .before .before .before .test-operand .ensures) (c .before .before .enum-told .given .1)
     (inr (_, c .inverse .ensures, refl))
 
 returns-3 : tie.Need-returns-3
 unfolding InvertOutcome
-returns-3 c = says-refusal _ _ _ _ (c .before .before .before .test-operand .ensures) (c .before .k .given .1)
+returns-3 c = refuses _ _ _ _ (c .before .before .before .test-operand .ensures) _ (c .before .k .given .1) refl
 
 pub invert-spec : {M : Type 1} → statement M
 invert-spec =

@@ -1,12 +1,12 @@
 -- Where the tests pass, the modulus is positive.
 use borrow.Author.Needs.{needs}
-use mathlib.Core.Path.{ap}
+use mathlib.Core.Path.{ap, refl}
 use mathlib.Core.List.{[], _∷_}
 use Prim.Native.Nat.{ℕ}
 use native.Mathlib.Omega.{arith}
 use Rattle.field.specs.Answer.{result}
 use Rattle.field.specs.Calls.{ResidueOutcome}
-use Rattle.field.proofs.Tests.{passed, says-answer, says-refusal, modulus-passed}
+use Rattle.field.proofs.Tests.{passed, answers, refuses, modulus-passed}
 use Rattle.field.proofs.Field.residue_of.Statement.{statement}
 use Rattle.field.proofs.Field.residue_of.Tie as tie
 
@@ -25,12 +25,12 @@ enum-known-k c = search needs
 returns : tie.Need-returns
 unfolding ResidueOutcome
 returns c =
-    says-answer _ _ _ _ (c .before .before .before .test-operands .ensures) (c .before .enum-told .given .1)
+    answers _ _ _ _ (c .before .before .before .test-operands .ensures) (c .before .enum-told .given .1)
     (ap (λ (x : ℕ). result (x ∷ [])) (c .residue .ensures))
 
 returns-2 : tie.Need-returns-2
 unfolding ResidueOutcome
-returns-2 c = says-refusal _ _ _ _ (c .before .before .before .test-operands .ensures) (c .before .k .given .1)
+returns-2 c = refuses _ _ _ _ (c .before .before .before .test-operands .ensures) _ (c .before .k .given .1) refl
 
 pub residue-of-spec : {M : Type 1} → statement M
 residue-of-spec =

@@ -1,7 +1,7 @@
 -- One test more than for one operand.
 use borrow.Author.Needs.{needs}
 use native.Mathlib.Omega.{arith}
-use Rattle.field.proofs.Tests.{more-passed, more-refused, more-stopped}
+use Rattle.field.proofs.Tests.{here, later, no-more, and-then, and-stop}
 use Rattle.field.proofs.Field.test_operands.Statement.{statement}
 use Rattle.field.proofs.Field.test_operands.Tie as tie
 
@@ -15,13 +15,13 @@ enum-known-k : tie.Need-enum-known-k
 enum-known-k c = search needs
 
 returns : tie.Need-returns
-returns c = more-refused _ _ _ (c .before .before .before .test-operand .ensures) (c .before .enum-told .given .1) (omega arith)
+returns c = and-then _ _ _ (c .before .before .before .test-operand .ensures) _ (c .before .enum-told .given .1) (here _ _ (omega arith))
 
 returns-2 : tie.Need-returns-2
-returns-2 c = more-passed _ _ _ (c .before .before .before .test-operand .ensures) (c .before .enum-told .given .1) (omega arith)
+returns-2 c = and-then _ _ _ (c .before .before .before .test-operand .ensures) _ (c .before .enum-told .given .1) (later _ _ _ (omega arith) no-more)
 
 returns-3 : tie.Need-returns-3
-returns-3 c = more-stopped _ _ _ (c .before .before .before .test-operand .ensures) _ (c .before .k .given .1)
+returns-3 c = and-stop _ _ _ (c .before .before .before .test-operand .ensures) _ (c .before .k .given .1)
 
 pub test-operands-spec : {M : Type 1} → statement M
 test-operands-spec =

@@ -4,8 +4,8 @@ use native.Mathlib.Omega.{arith}
 use borrow.Author.Count.{below-more}
 use lib.ListN.{length, getD}
 use Rattle.field.proofs.Truth.{shown, refuted}
-use Rattle.engine.proofs.any_from.Statement.{statement}
-use Rattle.engine.proofs.any_from.Tie as tie
+use Rattle.words.proofs.any_from.Statement.{statement}
+use Rattle.words.proofs.any_from.Tie as tie
 
 abbrev Inv-loop : tie.InvT-loop
 Inv-loop words bound i₀ i = (i ≤ length words) × ((k : ℕ) → k < i → getD words k 0 < bound)

@@ -1,8 +1,8 @@
 -- `part_at` meets its contract.
-use Rattle.row.proofs.Part.{lent}
+use Rattle.words.proofs.Part.{lent}
 use borrow.Author.Needs.{needs}
-use Rattle.row.proofs.part_at.Statement.{statement}
-use Rattle.row.proofs.part_at.Tie as tie
+use Rattle.words.proofs.part_at.Statement.{statement}
+use Rattle.words.proofs.part_at.Tie as tie
 
 mul-start : tie.Need-mul-start
 mul-start c = search needs

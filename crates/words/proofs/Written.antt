@@ -1,36 +1,33 @@
 -- Loops that write a list from the front, word by word or part by part: what was passed holds the new, what is left the old.
 --   Written, written-none, below-turn, written-turn   word by word
 --   PartsDone, parts-none, parts-turn, parts-skip   part by part, for parts of w words
-use mathlib.Core.Path.{_≡_, refl, ap, sym, _∙_, subst}
-use mathlib.Core.Logic.{_≢_}
+use mathlib.Core.Path.{_≡_, refl, _∙_}
 use mathlib.Core.List.{List}
-use Prim.Native.Nat.{ℕ, zero, suc, _+_, _*_, _≤_, _<_}
+use Prim.Native.Nat.{ℕ, _+_, _*_, _≤_, _<_}
 use native.Mathlib.Decide.{ℕ-discrete}
 use native.Mathlib.Omega.{arith}
 use lib.ListN.{length, getD, set, length-set}
 use lib.Seq.{getD-set-same, getD-set-other}
-use Rattle.row.specs.View.{part, poly}
-use Rattle.row.proofs.Part.{put, put-length, put-same, put-other}
+use Rattle.words.specs.Part.{part}
+use Rattle.words.proofs.Part.{put, put-length, put-same, put-other}
 
 -- below t the list holds g, and from t on what it held at first
 pub record Written (g : ℕ → ℕ) (first xs : List ℕ) (t : ℕ) : Type 0 where
   pub same : length xs ≡ length first
-  pub done : (k : ℕ) → k < t → poly xs k ≡ g k
-  pub left : (k : ℕ) → t ≤ k → poly xs k ≡ poly first k
+  pub done : (k : ℕ) → k < t → getD xs k 0 ≡ g k
+  pub left : (k : ℕ) → t ≤ k → getD xs k 0 ≡ getD first k 0
 
 pub written-none : (g : ℕ → ℕ) (xs : List ℕ) → Written g xs xs 0
 written-none g xs = record { same = refl; done = λ k h. absurd (omega arith); left = λ k h. refl }
 
 -- one word more is g's
-pub below-turn : (g : ℕ → ℕ) (xs : List ℕ) (t v : ℕ) → t < length xs → v ≡ g t → ((k : ℕ) → k < t → poly xs k ≡ g k) → (k : ℕ) → k < t + 1 → poly (set xs t v) k ≡ g k
-unfolding poly
+pub below-turn : (g : ℕ → ℕ) (xs : List ℕ) (t v : ℕ) → t < length xs → v ≡ g t → ((k : ℕ) → k < t → getD xs k 0 ≡ g k) → (k : ℕ) → k < t + 1 → getD (set xs t v) k 0 ≡ g k
 below-turn g xs t v h e done k l = elim (ℕ-discrete k t) [
   | yes q ↦ rw q (getD-set-same xs t v 0 h ∙ e)
   | no nq ↦ getD-set-other xs t k v 0 nq ∙ done k (omega arith)
 ]
 
 pub written-turn : (g : ℕ → ℕ) (first xs : List ℕ) (t v : ℕ) → t < length xs → v ≡ g t → Written g first xs t → Written g first (set xs t v) (t + 1)
-unfolding poly
 written-turn g first xs t v h e w = record {
   same = length-set xs t v ∙ w .same;
   done = below-turn g xs t v h e (w .done);

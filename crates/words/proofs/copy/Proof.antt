@@ -1,21 +1,21 @@
--- Below i the words are those to copy.
-use mathlib.Core.Path.{_≡_, refl, _∙_}
-use Prim.Native.Nat.{ℕ, _-_, _≤_, _<_}
+-- `copy` meets its contract: below i the words are those to copy.
+use mathlib.Core.Path.{refl}
+use Prim.Native.Nat.{_-_, _≤_}
 use native.Mathlib.Omega.{arith}
-use lib.ListN.{length, getD, length-set}
+use lib.ListN.{length, getD}
 use lib.Seq.{ext-getD}
-use Rattle.jobfile.proofs.Filled.{one-more}
-use Rattle.jobfile.proofs.copy.Statement.{statement}
-use Rattle.jobfile.proofs.copy.Tie as tie
+use Rattle.words.proofs.Written.{Written, written-none, written-turn}
+use Rattle.words.proofs.copy.Statement.{statement}
+use Rattle.words.proofs.copy.Tie as tie
 
 abbrev Inv-loop : tie.InvT-loop
-Inv-loop from into₀ i₀ into i = (i ≤ length from) × (length into ≡ length into₀) × ((k : ℕ) → k < i → getD into k 0 ≡ getD from k 0)
+Inv-loop from into₀ i₀ into i = (i ≤ length from) × Written (λ k. getD from k 0) into₀ into i
 
 abbrev μ-loop : tie.MeasureT-loop
 μ-loop from into₀ i₀ into i = length from - i
 
 loop-holds : tie.Need-loop-holds Inv-loop μ-loop
-loop-holds c = (omega arith, refl, λ k h. absurd (omega arith))
+loop-holds c = (omega arith, written-none _ _)
 
 mul-into : tie.Need-mul-into Inv-loop μ-loop
 mul-into c = omega arith
@@ -38,7 +38,7 @@ loop-less c = omega arith
 loop-again : tie.Need-loop-again Inv-loop μ-loop
 loop-again c =
     let l = c .before .before .loop in
-    (omega arith, length-set (l .into) (l .i) _ ∙ l .inv .1, one-more _ (l .into) (l .i) _ (omega arith) refl (l .inv .2))
+    (omega arith, written-turn _ _ (l .into) (l .i) _ (omega arith) refl (l .inv .1))
 
 same-length : tie.Need-same-length Inv-loop μ-loop
 same-length c = omega arith
@@ -46,7 +46,7 @@ same-length c = omega arith
 returns : tie.Need-returns Inv-loop μ-loop
 returns c =
     let l = c .before .loop in
-    ext-getD 0 (l .into) (c .before .before .args .from .now) (omega arith) (λ k h. l .inv .2 k (omega arith))
+    ext-getD 0 (l .into) (c .before .before .args .from .now) (omega arith) (λ k h. l .inv .1 .done k (omega arith))
 
 pub copy-spec : {M : Type 1} → statement M
 copy-spec =

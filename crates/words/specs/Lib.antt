@@ -1,0 +1,3 @@
+-- How lent words are read.
+pub mod Part
+pub mod Some
