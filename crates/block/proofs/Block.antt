@@ -101,11 +101,12 @@ module _ (n : ℕ) (ps : List ℕ) (hn : n < 4294967296) (hp : Words ps) where
   words-below =
       let w : ℕ → ℕ = λ i. getD (body n ps) i 0 in
       let below = summed-below w 126 in
-      words-append (body n ps) _ (words-cons n _ hn (words-part 125 ps hp))
-      (words-cons (summed w 126 .a) _ (below .0) (words-cons (summed w 126 .b) [] (below .1) words-nil))
+      let checks = summed w 126 in
+      words-append (body n ps) (checks .a ∷ checks .b ∷ []) (words-cons n (upTo 125 (λ i. getD ps i 0)) hn (words-part 125 ps hp))
+      (words-cons (checks .a) (checks .b ∷ []) (below .0) (words-cons (checks .b) [] (below .1) words-nil))
 
   word-below : (i : ℕ) → words n ps i < 4294967296
-  unfolding words Words
+  unfolding words
   word-below i = words-below i
 
   -- the words of bytes that begin with the block

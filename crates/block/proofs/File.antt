@@ -15,7 +15,8 @@ use Rattle.block.specs.Read.{numberOf, Sound}
 use Rattle.block.specs.File.{blocksOf, blocksFor, fileOf}
 use Rattle.block.specs.Part.{blockAt, payloadAt}
 use Rattle.block.proofs.Table.{length-upTo, getD-upTo}
-use Rattle.block.proofs.Words.{bytes-take, bytes-drop, words-drop, word-take, word-drop}
+use Rattle.block.proofs.Words.{word-take, word-drop}
+use Rattle.words.proofs.Within.{within-take, within-drop}
 use Rattle.block.proofs.Block.{words-payload, length-block, block-word, number-block, sound-block, block-same, block-is}
 
 pub length-blocks : (b m : ℕ) (ws : List ℕ) → length (blocksOf b m ws) ≡ 512 * m
@@ -100,7 +101,7 @@ payload-blocks b (suc m) ws hb h k l = elim (decLt k 125) [
   | no j ↦
       let e : 125 + (k - 125) ≡ k = omega arith in
       let next = rw (e, after-first) at (payload-next (blockOf b ws ++ blocksOf (suc b) m (drop 125 ws)) (k - 125)) in
-      sym next ∙ payload-blocks (suc b) m (drop 125 ws) (omega arith) (words-drop 125 ws h) (k - 125) (omega arith)
+      sym next ∙ payload-blocks (suc b) m (drop 125 ws) (omega arith) (within-drop _ 125 ws h) (k - 125) (omega arith)
       ∙ getD-drop 125 ws (k - 125) 0 ∙ ap (λ (x : ℕ). getD ws x 0) e
 ]
 
@@ -118,7 +119,7 @@ block-blocks b (suc m) ws (suc j) h =
 pub blocks-sound : (b m : ℕ) (ws : List ℕ) → b + m ≤ 4294967296 → Words ws → (j : ℕ) → j < m
     → (numberOf (blockAt (blocksOf b m ws) j) ≡ b + j) × Sound (blockAt (blocksOf b m ws) j)
 blocks-sound b m ws hb h j l =
-    let w = words-drop (125 * j) ws h in
+    let w = within-drop _ (125 * j) ws h in
     rw (block-blocks b m ws j l) (number-block (b + j) (drop (125 * j) ws) (omega arith) w, sound-block (b + j) (drop (125 * j) ws) (omega arith) w)
 
 -- sound blocks numbered in turn from b are those of their payload words
@@ -132,10 +133,10 @@ blocks-are b zero (x ∷ l) ws h e s p = absurd (omega arith)
 blocks-are b (suc m) l ws h e s p =
     let here = s 0 (omega arith) in
     let first =
-    block-is (take 512 l) ws (bytes-take 512 l h) (length-take-le 512 l (omega arith)) (here .1)
+    block-is (take 512 l) ws (within-take _ 512 l h) (length-take-le 512 l (omega arith)) (here .1)
     (λ i j. p i (omega arith) ∙ payload-first l i j ∙ sym (word-take 128 l (suc i) (omega arith))) in
     let rest =
-    blocks-are (suc b) m (drop 512 l) (drop 125 ws) (bytes-drop 512 l h) (length-drop 512 l ∙ omega arith)
+    blocks-are (suc b) m (drop 512 l) (drop 125 ws) (within-drop _ 512 l h) (length-drop 512 l ∙ omega arith)
     (λ j i. let n : suc b + j ≡ b + suc j = omega arith in rw (block-next l j, n) (s (suc j) (omega arith)))
     (λ k i. getD-drop 125 ws k 0 ∙ p (125 + k) (omega arith) ∙ sym (payload-next l k)) in
     sym (take-append-drop 512 l)

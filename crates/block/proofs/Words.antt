@@ -20,7 +20,7 @@ unfolding wordAt
 word-cons a b c d l i = simp (four, suc-add)
 
 pub word-below : (l : List ℕ) → Bytes l → (i : ℕ) → wordAt l i < 4294967296
-unfolding wordAt Bytes
+unfolding wordAt
 word-below l h i = omega (arith, h (4 * i), h (4 * i + 1), h (4 * i + 2), h (4 * i + 3))
 
 pub length-bytes : (ws : List ℕ) → length (bytesOf ws) ≡ 4 * length ws
@@ -34,7 +34,7 @@ bytes-append [] ys = refl
 bytes-append (x ∷ xs) ys = rw (bytes-append xs ys)
 
 pub bytes-bytes : (ws : List ℕ) → Bytes (bytesOf ws)
-unfolding bytesOf Bytes
+unfolding bytesOf
 bytes-bytes [] i = omega arith
 bytes-bytes (w ∷ ws) zero = omega arith
 bytes-bytes (w ∷ ws) (suc zero) = omega arith
@@ -52,7 +52,7 @@ whole w h =
 
 -- the words of bytes that begin with those of ws
 pub word-bytes : (ws rest : List ℕ) → Words ws → (i : ℕ) → i < length ws → wordAt (bytesOf ws ++ rest) i ≡ getD ws i 0
-unfolding bytesOf Words wordAt
+unfolding bytesOf wordAt
 word-bytes [] rest h i l = absurd (omega arith)
 word-bytes (w ∷ ws) rest h zero l = whole w (h 0)
 word-bytes (w ∷ ws) rest h (suc i) l = rw word-cons (word-bytes ws rest (λ j. h (suc j)) i (omega arith))
@@ -73,7 +73,7 @@ module _ (a b c d : ℕ) (ha : a < 256) (hb : b < 256) (hc : c < 256) (hd : d < 
 
 -- bytes are those of their words
 pub bytes-words : (n : ℕ) (l : List ℕ) → length l ≡ 4 * n → Bytes l → l ≡ bytesOf (upTo n (wordAt l))
-unfolding bytesOf Bytes upTo wordAt
+unfolding bytesOf upTo wordAt
 bytes-words zero [] e h = refl
 bytes-words zero (a ∷ l) e h = absurd (omega arith)
 bytes-words (suc n) [] e h = absurd (omega arith)
@@ -98,46 +98,27 @@ bytes-injective xs ys hx hy e =
 
 -- lists of words
 pub words-nil : Words []
-unfolding Words
 words-nil i = omega arith
 
 pub words-cons : (w : ℕ) (ws : List ℕ) → w < 4294967296 → Words ws → Words (w ∷ ws)
-unfolding Words
 words-cons w ws h hs zero = h
 words-cons w ws h hs (suc i) = hs i
 
 pub words-append : (xs ys : List ℕ) → Words xs → Words ys → Words (xs ++ ys)
-unfolding Words
 words-append [] ys hx hy i = hy i
 words-append (x ∷ xs) ys hx hy zero = hx 0
 words-append (x ∷ xs) ys hx hy (suc i) = words-append xs ys (λ j. hx (suc j)) hy i
 
 pub words-upTo : (n : ℕ) (w : ℕ → ℕ) → ((i : ℕ) → w i < 4294967296) → Words (upTo n w)
-unfolding Words upTo
+unfolding upTo
 words-upTo zero w h i = omega arith
 words-upTo (suc n) w h zero = h 0
 words-upTo (suc n) w h (suc i) = words-upTo n (λ j. w (suc j)) (λ j. h (suc j)) i
 
 pub words-part : (n : ℕ) (ws : List ℕ) → Words ws → Words (upTo n (λ i. getD ws i 0))
-unfolding Words
 words-part n ws h = words-upTo n (λ i. getD ws i 0) h
 
--- parts of bytes and words
-pub bytes-take : (n : ℕ) (l : List ℕ) → Bytes l → Bytes (take n l)
-unfolding Bytes
-bytes-take zero l h i = omega arith
-bytes-take (suc n) [] h i = omega arith
-bytes-take (suc n) (x ∷ l) h zero = h 0
-bytes-take (suc n) (x ∷ l) h (suc i) = bytes-take n l (λ j. h (suc j)) i
-
-pub bytes-drop : (n : ℕ) (l : List ℕ) → Bytes l → Bytes (drop n l)
-unfolding Bytes
-bytes-drop n l h i = rw getD-drop (h (n + i))
-
-pub words-drop : (n : ℕ) (l : List ℕ) → Words l → Words (drop n l)
-unfolding Words
-words-drop n l h i = rw getD-drop (h (n + i))
-
+-- parts of bytes
 pub word-take : (n : ℕ) (l : List ℕ) (i : ℕ) → i < n → wordAt (take (4 * n) l) i ≡ wordAt l i
 unfolding wordAt
 word-take n l i h =

@@ -10,7 +10,7 @@ use Rattle.field.specs.Modulus.{Modulus}
 use Rattle.field.specs.Refusal.{Order, NoTest, First, Outcome}
 use Rattle.field.proofs.Tests.{modulus-passed}
 use Rattle.field.proofs.Truth.{same-of, neither}
-use Rattle.words.proofs.Some.{below}
+use Rattle.words.proofs.Within.{below}
 use Rattle.engine.specs.Words.{orderOf}
 use Rattle.engine.specs.Sizes.{Sizes, PairSizes}
 use Rattle.engine.specs.Orders.{basisOrder, approximantOrder, pairOrder, startOrder}

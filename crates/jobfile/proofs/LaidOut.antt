@@ -1,7 +1,7 @@
 -- The layout of an admitted job: its length, its payload words, that the job can be read back from it, and that the reader's tests pass.
 use mathlib.Core.Path.{_≡_, refl, ap, sym, _∙_}
 use mathlib.Core.Logic.{_≢_}
-use mathlib.Core.List.{_++_}
+use mathlib.Core.List.{_∷_, _++_}
 use Prim.Native.Nat.{ℕ, suc, _+_, _*_, _-_, _≤_, _<_}
 use native.Mathlib.Omega.{arith}
 use lib.ListN.{length, getD, length-append, List·getD-append, List·getD-eq-default}
@@ -35,7 +35,6 @@ module _ (j : Job) (a : Admitted j) where
   length-words = omega (arith, length-append (j .d) (j .series), a .type-words, a .series-words)
 
   list-words : Words (j .d ++ j .series)
-  unfolding Words
   list-words =
       let p-to = a .modulus .at-most in
       words-append (j .d) (j .series) (λ i. omega (arith, a .entries i)) (λ i. omega (arith, a .coefficients i))
@@ -44,7 +43,9 @@ module _ (j : Job) (a : Admitted j) where
   unfolding wordsOf
   words-words =
       let p-to = a .modulus .at-most in
-      words-cons (j .p) _ (omega arith) (words-cons (j .n) _ (omega (arith, a .n-to)) (words-cons (j .s) _ (omega (arith, a .s-to)) list-words))
+      let rest = j .d ++ j .series in
+      words-cons (j .p) (j .n ∷ j .s ∷ rest) (omega arith)
+      (words-cons (j .n) (j .s ∷ rest) (omega (arith, a .n-to)) (words-cons (j .s) rest (omega (arith, a .s-to)) list-words))
 
   -- one block at least, and 17 at most
   pub blocks-few : (1 ≤ blocksFor (wordCount (j .n) (j .s))) × (blocksFor (wordCount (j .n) (j .s)) ≤ 17)

@@ -18,7 +18,7 @@ use Rattle.block.proofs.File.{file-is}
 use Rattle.block.proofs.Fault.{no-faults}
 use Rattle.jobfile.specs.Job.{Admitted, jobOf}
 use Rattle.jobfile.specs.Layout.{wordCount, wordsOf, layout}
-use Rattle.words.proofs.Some.{below}
+use Rattle.words.proofs.Within.{below}
 use Rattle.words.proofs.Sizes.{series-small}
 use Rattle.field.proofs.Refusal.{none-left, none-right}
 use Rattle.field.proofs.Truth.{same-of, neither}

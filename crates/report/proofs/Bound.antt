@@ -5,37 +5,24 @@ use Prim.Native.Nat.{ℕ, zero, suc, _+_, _*_, _-_, _/_, _^_, _≤_, _<_}
 use native.Mathlib.Nat.{pow-suc, mul-le-mul-right, suc-mul, le-trans}
 use native.Mathlib.Decide.{decLt, ℕ-discrete}
 use native.Mathlib.Omega.{arith}
-use lib.ListN.{length, getD, take, drop, length-append, List·getD-eq-default}
+use lib.ListN.{length, getD, length-append}
 use lib.ListN.{length-take}
-use lib.Seq.{getD-take, getD-drop}
 use Rattle.io.specs.Digits.{digits}
 use Rattle.report.specs.Each.{each}
 use Rattle.report.specs.Decimal.{placesWithin, places, decimal, signed}
 use Rattle.report.specs.Entry.{trim, shown, degree}
 use Rattle.words.specs.Part.{part}
 use Rattle.words.proofs.Part.{part-fits, part-length}
-use Rattle.report.specs.Text.{number, numbers, heading, entryText, entriesText, shiftedDegree, pivotLine, rowLine, rowLines, leastLine, basisText, refusalText}
+use Rattle.report.specs.Text.{number, numbers, heading, entryText, entriesText, shiftedDegree, pivotLine, rowLine, rowLines, numbered, basisText, refusalText}
 use Rattle.report.specs.Words.{relations, typed, row, space, least, refused, line}
 use Rattle.report.specs.Calls.{textBytes}
+use Rattle.words.specs.Within.{Within}
+use Rattle.words.proofs.Within.{within-take, within-part}
 use Rattle.report.proofs.Decimal.{few, many, signed-high, signed-low}
 use Rattle.report.proofs.Entry.{shown-zero, shown-front, trim-short}
 
--- words of 32 bits; past the end there is 0
 abbrev pub Words : List ℕ → Type 0
-Words l = (k : ℕ) → getD l k 0 < 2 ^ 32
-
-words-take : (n : ℕ) (l : List ℕ) → Words l → Words (take n l)
-words-take n l h k = elim (decLt k n) [
-  | yes y ↦ rw (getD-take n l k 0 y) (h k)
-  | no y ↦ rw (List·getD-eq-default (take n l) 0 {n = k} (omega (arith, length-take n l))) (omega arith)
-]
-
-words-drop : (n : ℕ) (l : List ℕ) → Words l → Words (drop n l)
-words-drop n l h k = rw (getD-drop n l k 0) (h (n + k))
-
-words-part : (w k : ℕ) (l : List ℕ) → Words l → Words (part w k l)
-unfolding part
-words-part w k l h = words-take w (drop (k * w) l) (words-drop (k * w) l h)
+Words = Within (2 ^ 32)
 
 words-zero : Words (0 ∷ [])
 words-zero zero = omega arith
@@ -44,7 +31,7 @@ words-zero (suc k) = omega arith
 words-shown : (l : List ℕ) → Words l → Words (shown l)
 words-shown l h = elim (ℕ-discrete (length (trim l)) 0) [
   | yes e ↦ rw (shown-zero l e) words-zero
-  | no e ↦ rw (shown-front l e) (words-take (length (trim l)) l h)
+  | no e ↦ rw (shown-front l e) (within-take _ (length (trim l)) l h)
 ]
 
 shown-length : (l : List ℕ) → 0 < length l → length (shown l) ≤ length l
@@ -125,7 +112,7 @@ module _ (n w : ℕ) (few : n ≤ 8) (short : w ≤ 256) (wide : 0 < w) where
   unfolding entriesText
   entries-length l h g = each-most (λ k. entryText (part w k l)) 2818 8 n few λ k b.
       let e : length (part w k l) ≡ w = part-length w k l (omega (arith, part-fits n w k b)) in
-      entry-length (part w k l) (omega arith) (omega arith) (words-part w k l g)
+      entry-length (part w k l) (omega arith) (omega arith) (within-part _ w k l g)
 
   line-length : (e d i : ℕ) (l : List ℕ) → e < 2 ^ 32 → d < 2 ^ 32 → i < n → length l ≡ n * w → Words l → length (pivotLine n w e d i l) ≤ 22582
   unfolding pivotLine
@@ -142,7 +129,7 @@ module _ (n w : ℕ) (few : n ≤ 8) (short : w ≤ 256) (wide : 0 < w) where
   rows-length d basis h hd hb = each-most (λ i. rowLine n w (getD d i 0) i (part (n * w) i basis)) 22582 8 n few λ i b.
       let e : length (part (n * w) i basis) ≡ n * w = part-length (n * w) i basis (omega (arith, part-fits n (n * w) i b)) in
       let f : length (part w i (part (n * w) i basis)) ≡ w = part-length w i (part (n * w) i basis) (omega (arith, part-fits n w i b)) in
-      line-length (degree (part w i (part (n * w) i basis))) (getD d i 0) i (part (n * w) i basis) (degree-small (part w i (part (n * w) i basis)) (omega arith)) (hd i) b e (words-part (n * w) i basis hb)
+      line-length (degree (part w i (part (n * w) i basis))) (getD d i 0) i (part (n * w) i basis) (degree-small (part w i (part (n * w) i basis)) (omega arith)) (hd i) b e (within-part _ (n * w) i basis hb)
 
 heading-length : (p n s : ℕ) (d : List ℕ) → p < 2 ^ 32 → n < 2 ^ 32 → s < 2 ^ 32 → length d ≤ 8 → Words d → length (heading p n s d) ≤ 136
 unfolding heading
@@ -150,8 +137,8 @@ heading-length p n s d hp hn hs h g =
     let front = both (both (both (most relations) (a-number p hp)) (a-number n hn)) (a-number s hs) in
     both (both (both front (most typed)) (record { fits = numbers-length d 8 h g })) (most line) .fits
 
-least-length : (i : ℕ) → i < 2 ^ 32 → length (leastLine i) ≤ 17
-unfolding leastLine
+least-length : (i : ℕ) → i < 2 ^ 32 → length (numbered least i) ≤ 17
+unfolding numbered
 least-length i h = both (both (most least) (a-number i h)) (most line) .fits
 
 pub basis-fits : (p n s : ℕ) (d basis : List ℕ) (i : ℕ) → p < 2 ^ 32 → n ≤ 8 → s ≤ 255 → i < 2 ^ 32 → length d ≡ n → length basis ≡ n * (n * (s + 1)) → Words d → Words basis
@@ -160,9 +147,9 @@ unfolding basisText
 basis-fits p n s d basis i hp hn hs hi ed eb wd wb =
     let front : Most (heading p n s d) 136 = record { fits = heading-length p n s d hp (omega arith) (omega arith) (omega arith) wd } in
     let rows : Most (rowLines n (s + 1) d basis) 180656 = record { fits = rows-length n (s + 1) hn (omega arith) (omega arith) d basis eb wd wb } in
-    let end : Most (leastLine i) 17 = record { fits = least-length i hi } in
+    let end : Most (numbered least i) 17 = record { fits = least-length i hi } in
     both (both front rows) end .fits
 
 pub refusal-fits : (k : ℕ) → k < 2 ^ 32 → length (refusalText k) ≤ textBytes
-unfolding refusalText
+unfolding refusalText numbered
 refusal-fits k h = le-trans (both (both (most refused) (a-number k h)) (most line) .fits) (omega arith)

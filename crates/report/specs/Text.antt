@@ -42,12 +42,13 @@ rowLine n w d i l = pivotLine n w (degree (part w i l)) d i l
 unfoldable pub rowLines : ℕ → ℕ → List ℕ → List ℕ → List ℕ
 rowLines n w d basis = each (λ i. rowLine n w (getD d i 0) i (part (n * w) i basis)) n
 
-unfoldable pub leastLine : ℕ → List ℕ
-leastLine i = least ++ number i ++ line
+-- a line of a word and a number
+unfoldable pub numbered : List ℕ → ℕ → List ℕ
+numbered word k = word ++ number k ++ line
 
 -- rows and entries are counted from 0 in the words, and from 1 in the text; i is the least row's number, from 1
 unfoldable pub basisText : ℕ → ℕ → ℕ → List ℕ → List ℕ → ℕ → List ℕ
-basisText p n s d basis i = heading p n s d ++ rowLines n (s + 1) d basis ++ leastLine i
+basisText p n s d basis i = heading p n s d ++ rowLines n (s + 1) d basis ++ numbered least i
 
 unfoldable pub refusalText : ℕ → List ℕ
-refusalText k = refused ++ number k ++ line
+refusalText k = numbered refused k

@@ -6,7 +6,7 @@ ghost use lib.ListN.{length};
 ghost use Rattle.field.specs.Calls.{Tests};
 ghost use Rattle.report.specs.Decimal.{decimal, signed};
 ghost use Rattle.report.specs.Entry.{trim, degree};
-ghost use Rattle.report.specs.Text.{number, numbers, heading, entryText, entriesText, shiftedDegree, pivotLine, rowLine, rowLines, leastLine, basisText, refusalText};
+ghost use Rattle.report.specs.Text.{number, numbers, heading, entryText, entriesText, shiftedDegree, pivotLine, rowLine, rowLines, numbered, basisText};
 ghost use Rattle.report.specs.Wrote.{Room, Wrote};
 ghost use Rattle.report.specs.Calls.{textSays, basisOrder, BasisOutcome, RefusalOutcome};
 
@@ -187,20 +187,11 @@ fn put_heading(p: u32, n: u32, s: u32, d: &[u32], out: &mut [u8], at: usize) -> 
     put(b"\n", out, entries)
 }
 
-fn put_least(least: u32, out: &mut [u8], at: usize) -> usize
-    requires { ⌜ Room (leastLine least) (now out) at ⌝ }
-    ensures { λ r. ⌜ Wrote (leastLine least) (now (out .entry)) at (now (out .exit)) r ⌝ }
+fn put_numbered(word: &[u8], k: u32, out: &mut [u8], at: usize) -> usize
+    requires { ⌜ Room (numbered (now word) k) (now out) at ⌝ }
+    ensures { λ r. ⌜ Wrote (numbered (now (word .entry)) k) (now (out .entry)) at (now (out .exit)) r ⌝ }
 {
-    let named = put(b"least", out, at);
-    let counted = put_number(least as u64, out, named);
-    put(b"\n", out, counted)
-}
-
-fn put_refused(k: u32, out: &mut [u8]) -> usize
-    requires { ⌜ Room (refusalText k) (now out) 0 ⌝ }
-    ensures { λ r. ⌜ Wrote (refusalText k) (now (out .entry)) 0 (now (out .exit)) r ⌝ }
-{
-    let named = put(b"refused", out, 0);
+    let named = put(word, out, at);
     let counted = put_number(k as u64, out, named);
     put(b"\n", out, counted)
 }
@@ -211,7 +202,7 @@ fn put_basis(p: u32, n: u32, s: u32, d: &[u32], basis: &[u32], least: u32, out: 
 {
     let headed = put_heading(p, n, s, d, out, 0);
     let rows = put_rows(n as usize, s as usize + 1, d, basis, out, headed);
-    put_least(least, out, rows)
+    put_numbered(b"least", least, out, rows)
 }
 
 // The tests of a call that writes a basis.
@@ -257,5 +248,5 @@ pub fn write_refusal(k: u32, out: &mut [u8]) -> TextAnswer
     if out.len() != TEXT {
         return TextAnswer::Refused(4);
     }
-    TextAnswer::Length(put_refused(k, out))
+    TextAnswer::Length(put_numbered(b"refused", k, out, 0))
 }

@@ -1,5 +1,5 @@
 -- Laws about lent words.
 pub mod Part
 pub mod Written
-pub mod Some
+pub mod Within
 pub mod Sizes

@@ -1,3 +1,4 @@
 -- How lent words are read.
 pub mod Part
 pub mod Some
+pub mod Within

@@ -5,7 +5,7 @@ use Prim.Native.Nat.{_+_, _*_, _-_, _≤_}
 use native.Mathlib.Omega.{arith}
 use lib.ListN.{length, take}
 use borrow.Author.Needs.{needs}
-use Rattle.block.specs.Bytes.{bytesOf, Words}
+use Rattle.block.specs.Bytes.{bytesOf}
 use Rattle.block.specs.Block.{upTo}
 use Rattle.block.proofs.Block.{words, begun, filled, sealed-block}
 use Rattle.block.proofs.write_block.Statement.{statement}
@@ -56,7 +56,6 @@ same-length : tie.Need-same-length Inv-loop μ-loop
 same-length c = omega arith
 
 returns : tie.Need-returns Inv-loop μ-loop
-unfolding Words
 returns c =
     let start = c .before .before .before .before .before .before .before .before .before .before .before .before in
     let loop = c .before .before .before .before .before .loop in

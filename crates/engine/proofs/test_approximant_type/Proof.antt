@@ -1,7 +1,7 @@
 -- The type's length and entries, then the rest.
 use native.Mathlib.Omega.{arith}
 use Rattle.field.proofs.Truth.{fails, exact}
-use Rattle.words.proofs.Some.{below}
+use Rattle.words.proofs.Within.{below}
 use Rattle.field.proofs.Tests.{here, later}
 use borrow.Author.Needs.{needs}
 use Rattle.engine.proofs.test_approximant_type.Statement.{statement}

@@ -4,7 +4,6 @@ use Prim.Native.Nat.{ℕ, _+_, _*_}
 use native.Mathlib.Omega.{arith}
 use lib.ListN.{length}
 use lib.Seq.{length-take-le}
-use Rattle.block.specs.Bytes.{Bytes}
 use Rattle.block.specs.Part.{payloadAt}
 use Rattle.jobfile.specs.Payload.{jobIn}
 use Rattle.jobfile.proofs.Passed.{reader-lengths, reader-fits, reader-admitted, reader-layout}
@@ -80,7 +79,7 @@ same-length-2 : tie.Need-same-length-2
 same-length-2 c = search needs
 
 returns : tie.Need-returns
-unfolding jobIn Bytes
+unfolding jobIn
 returns c =
     let start = c .before .before .before .before .before .before .before .before .before .before .before .before .before .before in
     let fit = reader-fits (start .args .file .now) (length (start .args .d .now)) (length (start .args .series .now)) _ _ (start .pre) (c .before .before .before .before .before .before .before .before .before .payload-word2 .ensures) (c .before .before .before .before .before .before .before .before .payload-word3 .ensures) in

@@ -17,16 +17,19 @@ put-rows-requires : tie.Need-put-rows-requires
 unfolding basisText
 put-rows-requires c κs = (omega arith, omega arith, c .before .before .before .before .before .before .before .before .pre .2, c .before .before .before .before .before .before .before .before .pre .3, room-rest (room-first _ _ (c .before .before .before .before .before .before .before .before .pre .4)) (c .before .before .before .put-heading .ensures))
 
-put-least-requires : tie.Need-put-least-requires
+slice-aggregate-put-numbered : tie.Need-slice-aggregate-put-numbered
+slice-aggregate-put-numbered c = search needs
+
+put-numbered-requires : tie.Need-put-numbered-requires
 unfolding basisText
-put-least-requires c κs = room-rest (c .before .before .before .before .before .before .before .before .before .before .before .before .pre .4) (wrote-append (c .before .before .before .before .before .before .before .put-heading .ensures) (c .before .before .before .put-rows .ensures))
+put-numbered-requires c κs = room-rest (c .before .before .before .before .before .before .before .before .before .before .before .before .before .pre .4) (wrote-append (c .before .before .before .before .before .before .before .before .put-heading .ensures) (c .before .before .before .before .put-rows .ensures))
 
 same-length : tie.Need-same-length
 same-length c = search needs
 
 returns : tie.Need-returns
 unfolding basisText
-returns c = wrote-append (wrote-append (c .before .before .before .before .before .before .before .before .before .before .put-heading .ensures) (c .before .before .before .before .before .before .put-rows .ensures)) (c .before .before .put-least .ensures)
+returns c = wrote-append (wrote-append (c .before .before .before .before .before .before .before .before .before .before .before .put-heading .ensures) (c .before .before .before .before .before .before .before .put-rows .ensures)) (c .before .before .put-numbered .ensures)
 
 pub put-basis-spec : {M : Type 1} → statement M
 put-basis-spec =
@@ -35,6 +38,7 @@ put-basis-spec =
     put-heading-requires
     add-put-rows
     put-rows-requires
-    put-least-requires
+    slice-aggregate-put-numbered
+    put-numbered-requires
     same-length
     returns)

@@ -1,16 +1,26 @@
--- `write_basis` meets its contract: where the tests pass, the text fits.
+-- `write_basis` meets its contract.
 use mathlib.Core.Path.{refl}
-use mathlib.Core.Logic.{inl, inr}
+use mathlib.Core.List.{List}
+use Prim.Native.Nat.{ℕ, _^_, _<_}
+use lib.ListN.{length}
 use native.Mathlib.Omega.{arith}
-use Rattle.field.specs.Refusal.{Outcome}
-use Rattle.field.proofs.Tests.{passed, stopped}
+use Rattle.field.proofs.Tests.{passed, answers, refuses}
 use Rattle.report.specs.Calls.{BasisOutcome}
-use Rattle.report.proofs.Bound.{basis-fits}
-use Rattle.report.proofs.Calls.{basis-passed}
+use Rattle.report.specs.Text.{basisText}
+use Rattle.report.specs.Wrote.{Room}
+use Rattle.report.proofs.Bound.{Words, basis-fits}
+use Rattle.report.proofs.Calls.{Passed, basis-passed}
 use Rattle.report.proofs.Wrote.{wrote-answer}
 use borrow.Author.Needs.{needs}
 use Rattle.report.proofs.write_basis.Statement.{statement}
 use Rattle.report.proofs.write_basis.Tie as tie
+
+-- where the tests pass, the text fits
+room : (p n s : ℕ) (d basis : List ℕ) (i : ℕ) (out : List ℕ) → p < 2 ^ 32 → i < 2 ^ 32 → Words d → Words basis
+    → Passed n s (length d) (length basis) (length out) → Room (basisText p n s d basis i) out 0
+room p n s d basis i out hp hi wd wb b = record {
+  fits = omega (arith, b .room, basis-fits p n s d basis i hp (b .rows) (b .order) hi (b .typed) (b .filled) wd wb);
+}
 
 test-basis-requires : tie.Need-test-basis-requires
 test-basis-requires c κs = search needs
@@ -20,10 +30,10 @@ enum-told c = search needs
 
 put-basis-requires : tie.Need-put-basis-requires
 put-basis-requires c κs =
-    let a = c .before .before .before .before .before .before .before .args in
-    let f = c .before .before .before .before .before .before .before .fits in
-    let b = (basis-passed _ _ _ _ _ (passed _ _ (c .before .before .before .test-basis .ensures) (c .before .enum-told .given .1))) in
-    (b .rows, b .order, b .typed, b .filled, (record { fits = omega (arith, b .room, basis-fits (a .p) (a .n) (a .s) (a .d .now) (a .basis .now) (a .least) (f .p .fits) (b .rows) (b .order) (f .least .fits) (b .typed) (b .filled) (λ k. c .before .before .before .before .before .before .shared-slice-known .given k .fits) (λ k. c .before .before .before .before .before .shared-slice-known2 .given k .fits)) }))
+    let start = c .before .before .before .before .before .before .before in
+    let a = start .args in
+    let b = basis-passed _ _ _ _ _ (passed _ _ (c .before .before .before .test-basis .ensures) (c .before .enum-told .given .1)) in
+    (b .rows, b .order, b .typed, b .filled, room (a .p) (a .n) (a .s) (a .d .now) (a .basis .now) (a .least) (a .out .now) (start .fits .p .fits) (start .fits .least .fits) (λ k. c .before .before .before .before .before .before .shared-slice-known .given k .fits) (λ k. c .before .before .before .before .before .shared-slice-known2 .given k .fits) b)
 
 enum-known-k : tie.Need-enum-known-k
 enum-known-k c = search needs
@@ -32,16 +42,18 @@ same-length : tie.Need-same-length
 same-length c = search needs
 
 returns : tie.Need-returns
-unfolding BasisOutcome Outcome
+unfolding BasisOutcome
 returns c =
-    let a = c .before .before .before .before .before .before .before .before .before .before .args in
-    let f = c .before .before .before .before .before .before .before .before .before .before .fits in
-    let b = (basis-passed _ _ _ _ _ (passed _ _ (c .before .before .before .before .before .before .test-basis .ensures) (c .before .before .before .before .enum-told .given .1))) in
-    inl (passed _ _ (c .before .before .before .before .before .before .test-basis .ensures) (c .before .before .before .before .enum-told .given .1), wrote-answer (record { fits = omega (arith, b .room, basis-fits (a .p) (a .n) (a .s) (a .d .now) (a .basis .now) (a .least) (f .p .fits) (b .rows) (b .order) (f .least .fits) (b .typed) (b .filled) (λ k. c .before .before .before .before .before .before .before .before .before .shared-slice-known .given k .fits) (λ k. c .before .before .before .before .before .before .before .before .shared-slice-known2 .given k .fits)) }) (c .before .before .put-basis .ensures))
+    let start = c .before .before .before .before .before .before .before .before .before .before in
+    let a = start .args in
+    let tests = c .before .before .before .before .before .before .test-basis .ensures in
+    let told = c .before .before .before .before .enum-told .given .1 in
+    let b = basis-passed _ _ _ _ _ (passed _ _ tests told) in
+    answers _ _ _ _ tests told (wrote-answer (room (a .p) (a .n) (a .s) (a .d .now) (a .basis .now) (a .least) (a .out .now) (start .fits .p .fits) (start .fits .least .fits) (λ k. c .before .before .before .before .before .before .before .before .before .shared-slice-known .given k .fits) (λ k. c .before .before .before .before .before .before .before .before .shared-slice-known2 .given k .fits) b) (c .before .before .put-basis .ensures))
 
 returns-2 : tie.Need-returns-2
-unfolding BasisOutcome Outcome
-returns-2 c = inr (_, stopped _ _ _ (c .before .before .before .test-basis .ensures) (c .before .k .given .1), (refl, refl))
+unfolding BasisOutcome
+returns-2 c = refuses _ _ _ _ (c .before .before .before .test-basis .ensures) _ (c .before .k .given .1) (refl, refl)
 
 pub write-basis-spec : {M : Type 1} → statement M
 write-basis-spec =

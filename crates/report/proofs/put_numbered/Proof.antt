@@ -1,44 +1,39 @@
--- `put_least` meets its contract: its pieces are appended one after the other.
-use Rattle.report.specs.Text.{leastLine}
-use Rattle.report.specs.Words.{least}
+-- `put_numbered` meets its contract: its pieces are appended one after the other.
+use Rattle.report.specs.Text.{numbered}
 use Rattle.report.proofs.Wrote.{room-first, room-rest, wrote-append}
 use borrow.Author.Needs.{needs}
-use Rattle.report.proofs.put_least.Statement.{statement}
-use Rattle.report.proofs.put_least.Tie as tie
+use Rattle.report.proofs.put_numbered.Statement.{statement}
+use Rattle.report.proofs.put_numbered.Tie as tie
+
+put-requires : tie.Need-put-requires
+unfolding numbered
+put-requires c κs = room-first _ _ (room-first _ _ (c .before .before .before .pre))
+
+put-number-requires : tie.Need-put-number-requires
+unfolding numbered
+put-number-requires c κs = room-rest (room-first _ _ (c .before .before .before .before .before .before .before .pre)) (c .before .before .before .put .ensures)
 
 slice-aggregate-put : tie.Need-slice-aggregate-put
 slice-aggregate-put c = search needs
 
-put-requires : tie.Need-put-requires
-unfolding leastLine
-put-requires c κs = room-first least _ (c .before .before .before .pre)
-
-put-number-requires : tie.Need-put-number-requires
-unfolding leastLine
-put-number-requires c κs = room-rest (room-first _ _ (c .before .before .before .before .before .before .before .pre)) (c .before .before .before .put .ensures)
-
-slice-aggregate-put-2 : tie.Need-slice-aggregate-put-2
-slice-aggregate-put-2 c = search needs
-
 put-requires-2 : tie.Need-put-requires-2
-unfolding leastLine
+unfolding numbered
 put-requires-2 c κs = room-rest (c .before .before .before .before .before .before .before .before .before .before .before .before .pre) (wrote-append (c .before .before .before .before .before .before .before .before .put .ensures) (c .before .before .before .before .put-number .ensures))
 
 same-length : tie.Need-same-length
 same-length c = search needs
 
 returns : tie.Need-returns
-unfolding leastLine
+unfolding numbered
 returns c = wrote-append (wrote-append (c .before .before .before .before .before .before .before .before .before .before .before .put .ensures) (c .before .before .before .before .before .before .before .put-number .ensures)) (c .before .before .put2 .ensures)
 
-pub put-least-spec : {M : Type 1} → statement M
-put-least-spec =
+pub put-numbered-spec : {M : Type 1} → statement M
+put-numbered-spec =
     tie.close
     (tie.spec
-    slice-aggregate-put
     put-requires
     put-number-requires
-    slice-aggregate-put-2
+    slice-aggregate-put
     put-requires-2
     same-length
     returns)
