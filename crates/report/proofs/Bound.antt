@@ -13,7 +13,7 @@ use Rattle.report.specs.Decimal.{placesWithin, places, decimal, signed}
 use Rattle.report.specs.Entry.{trim, shown, degree}
 use Rattle.words.specs.Part.{part}
 use Rattle.words.proofs.Part.{part-fits, part-length}
-use Rattle.report.specs.Text.{number, numbers, heading, entryText, entriesText, shiftedDegree, pivotLine, rowLine, rowLines, numbered, basisText, refusalText}
+use Rattle.report.specs.Text.{number, numbers, sizes, heading, entryText, entriesText, shiftedDegree, degrees, pivotLine, rowLine, rowLines, numbered, basisText, refusalText}
 use Rattle.report.specs.Words.{relations, typed, row, space, least, refused, line}
 use Rattle.report.specs.Calls.{textBytes}
 use Rattle.words.specs.Within.{Within}
@@ -115,7 +115,7 @@ module _ (n w : ℕ) (few : n ≤ 8) (short : w ≤ 256) (wide : 0 < w) where
       entry-length (part w k l) (omega arith) (omega arith) (within-part _ w k l g)
 
   line-length : (e d i : ℕ) (l : List ℕ) → e < 2 ^ 32 → d < 2 ^ 32 → i < n → length l ≡ n * w → Words l → length (pivotLine n w e d i l) ≤ 22582
-  unfolding pivotLine
+  unfolding pivotLine degrees
   line-length e d i l he hd hi h g =
       let front = both (both (both (both (most row) (a-number (i + 1) (omega arith))) (a-number e he)) (most space)) (record { fits = signed-length e d he hd }) in
       both (both front (record { fits = entries-length l h g })) (most line) .fits
@@ -132,7 +132,7 @@ module _ (n w : ℕ) (few : n ≤ 8) (short : w ≤ 256) (wide : 0 < w) where
       line-length (degree (part w i (part (n * w) i basis))) (getD d i 0) i (part (n * w) i basis) (degree-small (part w i (part (n * w) i basis)) (omega arith)) (hd i) b e (within-part _ (n * w) i basis hb)
 
 heading-length : (p n s : ℕ) (d : List ℕ) → p < 2 ^ 32 → n < 2 ^ 32 → s < 2 ^ 32 → length d ≤ 8 → Words d → length (heading p n s d) ≤ 136
-unfolding heading
+unfolding heading sizes
 heading-length p n s d hp hn hs h g =
     let front = both (both (both (most relations) (a-number p hp)) (a-number n hn)) (a-number s hs) in
     both (both (both front (most typed)) (record { fits = numbers-length d 8 h g })) (most line) .fits

@@ -18,8 +18,11 @@ unfoldable pub numbers : List ℕ → List ℕ
 numbers l = each (λ k. number (getD l k 0)) (length l)
 
 -- line 1: p, n, s, then the type entries
+unfoldable pub sizes : ℕ → ℕ → ℕ → List ℕ
+sizes p n s = relations ++ number p ++ number n ++ number s
+
 unfoldable pub heading : ℕ → ℕ → ℕ → List ℕ → List ℕ
-heading p n s d = relations ++ number p ++ number n ++ number s ++ typed ++ numbers d ++ line
+heading p n s d = sizes p n s ++ typed ++ numbers d ++ line
 
 -- an entry after its bar
 unfoldable pub entryText : List ℕ → List ℕ
@@ -33,8 +36,11 @@ unfoldable pub shiftedDegree : ℕ → ℕ → ℤ
 shiftedDegree e d = pos e -ℤ pos d
 
 -- a row line at its pivot degree e, for entries of w words: row number (from 1), pivot degree, shifted degree, then each entry
+unfoldable pub degrees : ℕ → ℕ → ℕ → List ℕ
+degrees e d i = row ++ number (i + 1) ++ number e ++ space ++ signed (shiftedDegree e d)
+
 unfoldable pub pivotLine : ℕ → ℕ → ℕ → ℕ → ℕ → List ℕ → List ℕ
-pivotLine n w e d i l = row ++ number (i + 1) ++ number e ++ space ++ signed (shiftedDegree e d) ++ entriesText n w l ++ line
+pivotLine n w e d i l = degrees e d i ++ entriesText n w l ++ line
 
 unfoldable pub rowLine : ℕ → ℕ → ℕ → ℕ → List ℕ → List ℕ
 rowLine n w d i l = pivotLine n w (degree (part w i l)) d i l

@@ -6,7 +6,7 @@ ghost use lib.ListN.{length};
 ghost use Rattle.field.specs.Calls.{Tests};
 ghost use Rattle.report.specs.Decimal.{decimal, signed};
 ghost use Rattle.report.specs.Entry.{trim, degree};
-ghost use Rattle.report.specs.Text.{number, numbers, heading, entryText, entriesText, shiftedDegree, pivotLine, rowLine, rowLines, numbered, basisText};
+ghost use Rattle.report.specs.Text.{number, numbers, sizes, heading, entryText, entriesText, shiftedDegree, degrees, pivotLine, rowLine, rowLines, numbered, basisText};
 ghost use Rattle.report.specs.Wrote.{Room, Wrote};
 ghost use Rattle.report.specs.Calls.{textSays, basisOrder, BasisOutcome, RefusalOutcome};
 
@@ -130,6 +130,17 @@ fn put_entries(row: &[u32], n: usize, w: usize, out: &mut [u8], at: usize) -> us
 }
 
 // The line of row i, counted from 0, at its pivot degree; the line counts from 1.
+fn put_degrees(i: usize, pivot: u64, d: u32, out: &mut [u8], at: usize) -> usize
+    requires { ⌜ (i < 8) × Room (degrees pivot d i) (now out) at ⌝ }
+    ensures { λ r. ⌜ Wrote (degrees pivot d i) (now (out .entry)) at (now (out .exit)) r ⌝ }
+{
+    let named = put(b"row", out, at);
+    let counted = put_number(i as u64 + 1, out, named);
+    let pivoted = put_number(pivot, out, counted);
+    let spaced = put(b" ", out, pivoted);
+    put_difference(pivot, d as u64, out, spaced)
+}
+
 fn put_line(
     row: &[u32],
     i: usize,
@@ -143,11 +154,7 @@ fn put_line(
     requires { ⌜ (i < n) × (n ≤ 8) × (length (now row) ≡ n * w) × Room (pivotLine n w pivot d i (now row)) (now out) at ⌝ }
     ensures { λ r. ⌜ Wrote (pivotLine n w pivot d i (now (row .entry))) (now (out .entry)) at (now (out .exit)) r ⌝ }
 {
-    let named = put(b"row", out, at);
-    let counted = put_number(i as u64 + 1, out, named);
-    let pivoted = put_number(pivot, out, counted);
-    let spaced = put(b" ", out, pivoted);
-    let shifted = put_difference(pivot, d as u64, out, spaced);
+    let shifted = put_degrees(i, pivot, d, out, at);
     let filled = put_entries(row, n, w, out, shifted);
     put(b"\n", out, filled)
 }
@@ -174,15 +181,22 @@ fn put_rows(n: usize, w: usize, d: &[u32], basis: &[u32], out: &mut [u8], at: us
     next
 }
 
-fn put_heading(p: u32, n: u32, s: u32, d: &[u32], out: &mut [u8], at: usize) -> usize
-    requires { ⌜ Room (heading p n s (now d)) (now out) at ⌝ }
-    ensures { λ r. ⌜ Wrote (heading p n s (now (d .entry))) (now (out .entry)) at (now (out .exit)) r ⌝ }
+fn put_sizes(p: u32, n: u32, s: u32, out: &mut [u8], at: usize) -> usize
+    requires { ⌜ Room (sizes p n s) (now out) at ⌝ }
+    ensures { λ r. ⌜ Wrote (sizes p n s) (now (out .entry)) at (now (out .exit)) r ⌝ }
 {
     let named = put(b"relations", out, at);
     let modulus = put_number(p as u64, out, named);
     let count = put_number(n as u64, out, modulus);
-    let order = put_number(s as u64, out, count);
-    let typed = put(b" type", out, order);
+    put_number(s as u64, out, count)
+}
+
+fn put_heading(p: u32, n: u32, s: u32, d: &[u32], out: &mut [u8], at: usize) -> usize
+    requires { ⌜ Room (heading p n s (now d)) (now out) at ⌝ }
+    ensures { λ r. ⌜ Wrote (heading p n s (now (d .entry))) (now (out .entry)) at (now (out .exit)) r ⌝ }
+{
+    let sized = put_sizes(p, n, s, out, at);
+    let typed = put(b" type", out, sized);
     let entries = put_numbers(d, out, typed);
     put(b"\n", out, entries)
 }

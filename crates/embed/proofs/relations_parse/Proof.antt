@@ -18,7 +18,11 @@ same-length : tie.Need-same-length
 same-length c = search needs
 
 returns-2 : tie.Need-returns-2
-returns-2 c = given _ _ _ _ _ _ _ (c .before .before .before .before .before .before .before .if1 .left) (record { parsed = c .before .before .before .before .parse .result; follows = c .before .before .before .before .parse .ensures; says = refl }) (c .before .before .tell-parsed .ensures)
+returns-2 c =
+    let at-tell-parsed = c .before .before in
+    let at-parse = at-tell-parsed .before .before in
+    let at-if1 = at-parse .before .before .before in
+    given _ _ _ _ _ _ _ (at-if1 .if1 .left) (record { parsed = at-parse .parse .result; follows = at-parse .parse .ensures; says = refl }) (at-tell-parsed .tell-parsed .ensures)
 
 pub relations-parse-spec : {M : Type 1} → statement M
 relations-parse-spec =

@@ -24,7 +24,11 @@ same-length-3 : tie.Need-same-length-3
 same-length-3 c = search needs
 
 returns-2 : tie.Need-returns-2
-returns-2 c = given _ _ _ _ _ _ _ (c .before .before .before .before .before .before .before .before .before .before .before .if1 .left) (c .before .before .before .before .before .before .before .before .read-job .ensures) (c .before .before .tell-job .ensures)
+returns-2 c =
+    let at-tell-job = c .before .before in
+    let at-read-job = at-tell-job .before .before .before .before .before .before in
+    let at-if1 = at-read-job .before .before .before in
+    given _ _ _ _ _ _ _ (at-if1 .if1 .left) (at-read-job .read-job .ensures) (at-tell-job .tell-job .ensures)
 
 pub relations-read-spec : {M : Type 1} → statement M
 relations-read-spec =

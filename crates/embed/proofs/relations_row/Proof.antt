@@ -47,7 +47,11 @@ same-length : tie.Need-same-length
 same-length c = search needs
 
 returns-2 : tie.Need-returns-2
-returns-2 c = given _ _ _ _ _ _ _ (c .before .before .before .if1 .left) (row-said (c .before .before .row-view .ensures) _ (start-is c)) (refl, all-set (c .before .before .before .before .before .before .args .answer .now) (c .before .if2 .start ∷ length (c .before .before .row-view .result .now) ∷ []) (c .before .before .before .if1 .left))
+returns-2 c =
+    let at-row-view = c .before .before in
+    let at-if1 = at-row-view .before in
+    let start = at-if1 .before .before .before in
+    given _ _ _ _ _ _ _ (at-if1 .if1 .left) (row-said (at-row-view .row-view .ensures) _ (start-is c)) (refl, all-set (start .args .answer .now) (c .before .if2 .start ∷ length (at-row-view .row-view .result .now) ∷ []) (at-if1 .if1 .left))
 
 pub relations-row-spec : {M : Type 1} → statement M
 relations-row-spec =

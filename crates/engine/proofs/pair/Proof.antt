@@ -27,7 +27,11 @@ same-length-2 c = search needs
 
 returns : tie.Need-returns
 unfolding PairOutcome
-returns c = answers _ _ _ _ (c .before .before .before .before .before .before .before .before .before .test-pair .ensures) (c .before .before .before .before .before .before .before .enum-told .given .1) (refl, c .before .before .before .before .write-pair .ensures)
+returns c =
+    let at-write-pair = c .before .before .before .before in
+    let at-enum-told = at-write-pair .before .before .before in
+    let at-test-pair = at-enum-told .before .before in
+    answers _ _ _ _ (at-test-pair .test-pair .ensures) (at-enum-told .enum-told .given .1) (refl, at-write-pair .write-pair .ensures)
 
 returns-2 : tie.Need-returns-2
 unfolding PairOutcome

@@ -42,7 +42,11 @@ returns-2 c =
     (here _ _ (spare-some (spareIn (args .file .now) (args .n) (args .s)) (c .before .any-payload-from .ensures .0 (c .if2 .taken))))
 
 any-payload-from-requires-2 : tie.Need-any-payload-from-requires-2
-any-payload-from-requires-2 c κs = omega (arith, fits (c .before .before .before .before .before .args .file .now) (c .before .before .before .before .before .args .n) (c .before .before .before .before .before .args .s) (c .before .before .if1 .left ∙ c .before .before .before .blocks-of .ensures))
+any-payload-from-requires-2 c κs =
+    let at-if1 = c .before .before in
+    let at-blocks-of = at-if1 .before in
+    let start = at-blocks-of .before .before in
+    omega (arith, fits (start .args .file .now) (start .args .n) (start .args .s) (at-if1 .if1 .left ∙ at-blocks-of .blocks-of .ensures))
 
 returns-3 : tie.Need-returns-3
 returns-3 c =
@@ -55,7 +59,11 @@ add-any-payload-from : tie.Need-add-any-payload-from
 add-any-payload-from c = search needs
 
 any-payload-from-requires-3 : tie.Need-any-payload-from-requires-3
-any-payload-from-requires-3 c κs = fits (c .before .before .before .before .before .before .before .args .file .now) (c .before .before .before .before .before .before .before .args .n) (c .before .before .before .before .before .before .before .args .s) (c .before .before .before .before .if1 .left ∙ c .before .before .before .before .before .blocks-of .ensures)
+any-payload-from-requires-3 c κs =
+    let at-if1 = c .before .before .before .before in
+    let at-blocks-of = at-if1 .before in
+    let start = at-blocks-of .before .before in
+    fits (start .args .file .now) (start .args .n) (start .args .s) (at-if1 .if1 .left ∙ at-blocks-of .blocks-of .ensures)
 
 returns-4 : tie.Need-returns-4
 returns-4 c =

@@ -84,7 +84,10 @@ slice-aggregate-print-basis : tie.Need-slice-aggregate-print-basis
 slice-aggregate-print-basis c = sym (job (c .before) .0 .type-words)
 
 array-share-prefix-series : tie.Need-array-share-prefix-series
-array-share-prefix-series c = omega (arith, job (c .before) .0 .series-words, length-take (c .before .before .p .given .0 .1 .0 * c .before .before .p .given .0 .1 .1 .0) (c .before .before .before .before .before .before .read-job .last .1 .1 .0))
+array-share-prefix-series c =
+    let at-p = c .before .before in
+    let at-read-job = at-p .before .before .before .before in
+    omega (arith, job (c .before) .0 .series-words, length-take (at-p .p .given .0 .1 .0 * at-p .p .given .0 .1 .1 .0) (at-read-job .read-job .last .1 .1 .0))
 
 slice-aggregate-print-basis-2 : tie.Need-slice-aggregate-print-basis-2
 slice-aggregate-print-basis-2 c = sym (job (c .before .before) .0 .series-words)

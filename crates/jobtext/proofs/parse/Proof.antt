@@ -28,11 +28,19 @@ enum-known-slip c = search needs
 
 returns : tie.Need-returns
 unfolding jobOf tokens rest
-returns c = follows-same _ _ _ _ _ ((took-number _ _ (c .before .before .before .before .before .before .value .given .1) (c .before .before .before .before .before .before .before .before .take-number .ensures)) .1 isModulus Slip.Modulus count ∙ test-passed _ _ _ _ _ _ (modulus-yes _ (c .before .before .before .before .admits .ensures .0 (c .before .before .before .if1 .taken)))) (c .read-count .ensures)
+returns c =
+    let at-if1 = c .before .before .before in
+    let at-admits = at-if1 .before in
+    let at-value = at-admits .before .before in
+    let at-take-number = at-value .before .before in
+    follows-same _ _ _ _ _ ((took-number _ _ (at-value .value .given .1) (at-take-number .take-number .ensures)) .1 isModulus Slip.Modulus count ∙ test-passed _ _ _ _ _ _ (modulus-yes _ (at-admits .admits .ensures .0 (at-if1 .if1 .taken)))) (c .read-count .ensures)
 
 returns-2 : tie.Need-returns-2
 unfolding jobOf tokens rest
-returns-2 c = follows-wrong _ _ _ _ ((took-number _ _ (c .before .before .before .value .given .1) (c .before .before .before .before .before .take-number .ensures)) .1 isModulus Slip.Modulus count ∙ test-failed _ _ _ _ _ _ (modulus-no _ (fails _ (c .before .admits .ensures) (c .if1 .left))))
+returns-2 c =
+    let at-value = c .before .before .before in
+    let at-take-number = at-value .before .before in
+    follows-wrong _ _ _ _ ((took-number _ _ (at-value .value .given .1) (at-take-number .take-number .ensures)) .1 isModulus Slip.Modulus count ∙ test-failed _ _ _ _ _ _ (modulus-no _ (fails _ (c .before .admits .ensures) (c .if1 .left))))
 
 returns-3 : tie.Need-returns-3
 unfolding jobOf tokens rest

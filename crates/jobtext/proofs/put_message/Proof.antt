@@ -21,25 +21,46 @@ slice-aggregate-put-2 c = search needs
 
 put-requires-2 : tie.Need-put-requires-2
 unfolding message
-put-requires-2 c κs = room-rest (room-first _ _ (room-first _ _ (c .before .before .before .before .before .before .before .before .before .before .before .before .pre))) (wrote-append (c .before .before .before .before .before .before .before .before .put .ensures) (c .before .before .before .before .put-number .ensures))
+put-requires-2 c κs =
+    let at-put-number = c .before .before .before .before in
+    let at-put = at-put-number .before .before .before .before in
+    let start = at-put .before .before .before .before in
+    room-rest (room-first _ _ (room-first _ _ (start .pre))) (wrote-append (at-put .put .ensures) (at-put-number .put-number .ensures))
 
 put-words-requires : tie.Need-put-words-requires
 unfolding message
-put-words-requires c κs = room-rest (room-first _ _ (c .before .before .before .before .before .before .before .before .before .before .before .before .before .before .before .before .pre)) (wrote-append (wrote-append (c .before .before .before .before .before .before .before .before .before .before .before .before .put .ensures) (c .before .before .before .before .before .before .before .before .put-number .ensures)) (c .before .before .before .put2 .ensures))
+put-words-requires c κs =
+    let at-put2 = c .before .before .before in
+    let at-put-number = at-put2 .before .before .before .before .before in
+    let at-put = at-put-number .before .before .before .before in
+    let start = at-put .before .before .before .before in
+    room-rest (room-first _ _ (start .pre)) (wrote-append (wrote-append (at-put .put .ensures) (at-put-number .put-number .ensures)) (at-put2 .put2 .ensures))
 
 slice-aggregate-put-3 : tie.Need-slice-aggregate-put-3
 slice-aggregate-put-3 c = search needs
 
 put-requires-3 : tie.Need-put-requires-3
 unfolding message
-put-requires-3 c κs = room-rest (c .before .before .before .before .before .before .before .before .before .before .before .before .before .before .before .before .before .before .before .before .before .pre) (wrote-append (wrote-append (wrote-append (c .before .before .before .before .before .before .before .before .before .before .before .before .before .before .before .before .before .put .ensures) (c .before .before .before .before .before .before .before .before .before .before .before .before .before .put-number .ensures)) (c .before .before .before .before .before .before .before .before .put2 .ensures)) (c .before .before .before .before .put-words .ensures))
+put-requires-3 c κs =
+    let at-put-words = c .before .before .before .before in
+    let at-put2 = at-put-words .before .before .before .before in
+    let at-put-number = at-put2 .before .before .before .before .before in
+    let at-put = at-put-number .before .before .before .before in
+    let start = at-put .before .before .before .before in
+    room-rest (start .pre) (wrote-append (wrote-append (wrote-append (at-put .put .ensures) (at-put-number .put-number .ensures)) (at-put2 .put2 .ensures)) (at-put-words .put-words .ensures))
 
 same-length : tie.Need-same-length
 same-length c = search needs
 
 returns : tie.Need-returns
 unfolding message
-returns c = wrote-append (wrote-append (wrote-append (wrote-append (c .before .before .before .before .before .before .before .before .before .before .before .before .before .before .before .before .before .before .before .before .put .ensures) (c .before .before .before .before .before .before .before .before .before .before .before .before .before .before .before .before .put-number .ensures)) (c .before .before .before .before .before .before .before .before .before .before .before .put2 .ensures)) (c .before .before .before .before .before .before .before .put-words .ensures)) (c .before .before .put3 .ensures)
+returns c =
+    let at-put3 = c .before .before in
+    let at-put-words = at-put3 .before .before .before .before .before in
+    let at-put2 = at-put-words .before .before .before .before in
+    let at-put-number = at-put2 .before .before .before .before .before in
+    let at-put = at-put-number .before .before .before .before in
+    wrote-append (wrote-append (wrote-append (wrote-append (at-put .put .ensures) (at-put-number .put-number .ensures)) (at-put2 .put2 .ensures)) (at-put-words .put-words .ensures)) (at-put3 .put3 .ensures)
 
 pub put-message-spec : {M : Type 1} → statement M
 put-message-spec =

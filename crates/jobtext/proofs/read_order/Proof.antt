@@ -22,7 +22,12 @@ returns c =
     follows-wrong _ _ _ _ ((took-number _ _ (c .before .before .value .given .1) (c .before .before .before .before .take-number .ensures)) .1 (below 256) Slip.Order (entries (a .p) (a .n)) ∙ test-failed _ _ _ _ _ _ (le-ltb _ _ (c .if1 .taken)))
 
 read-type-requires : tie.Need-read-type-requires
-read-type-requires c κs = ((took-number _ _ (c .before .before .before .before .value .given .1) (c .before .before .before .before .before .before .take-number .ensures)) .0, c .before .before .before .before .before .before .before .before .pre .1, omega (arith, c .before .before .if1 .left))
+read-type-requires c κs =
+    let at-if1 = c .before .before in
+    let at-value = at-if1 .before .before in
+    let at-take-number = at-value .before .before in
+    let start = at-take-number .before .before in
+    ((took-number _ _ (at-value .value .given .1) (at-take-number .take-number .ensures)) .0, start .pre .1, omega (arith, at-if1 .if1 .left))
 
 enum-known-slip : tie.Need-enum-known-slip
 enum-known-slip c = search needs

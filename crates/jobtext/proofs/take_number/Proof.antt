@@ -41,15 +41,35 @@ enum-told-2 c = search needs
 
 returns-2 : tie.Need-returns-2
 unfolding Takes
-returns-2 c = (record { inside = c .before .before .before .before .before .word-end .ensures .1; lines = omega (arith, c .before .before .before .before .before .word-end .ensures .0, c .before .before .before .before .before .before .before .skip .ensures .0 .lines) }, λ ok slip go. one-is ok slip go (c .before .before .before .before .before .before .before .skip .result .line) _ _ _ _ (c .before .before .before .before .before .before .before .skip .ensures .1 ∙ rest-word _ (c .before .before .before .before .before .before .before .skip .result .at) (c .before .before .before .before .before .before .if1 .left) (c .before .before .before .before .before .before .before .skip .result .line) (c .before .before .before .before .before .before .before .skip .ensures .2 (c .before .before .before .before .before .before .if1 .left)) ∙ c .before .before .before .before .before .word-end .ensures .2 (c .before .before .before .before .before .before .before .skip .result .line)) (sym (c .before .value .given .1) ∙ c .before .before .before .read-word .ensures))
+returns-2 c =
+    let read = c .before .before .before in
+    let ended = read .before .before in
+    let tested = ended .before in
+    let skipped = tested .before .skip in
+    let line = skipped .result .line in (
+      record { inside = ended .word-end .ensures .1; lines = omega (arith, ended .word-end .ensures .0, skipped .ensures .0 .lines) },
+      λ ok slip go. one-is ok slip go line _ _ _ _ (skipped .ensures .1 ∙ rest-word _ (skipped .result .at) (tested .if1 .left) line (skipped .ensures .2 (tested .if1 .left)) ∙ ended .word-end .ensures .2 line) (sym (c .before .value .given .1) ∙ read .read-word .ensures),
+    )
 
 returns-3 : tie.Need-returns-3
 unfolding Takes
-returns-3 c = λ ok slip go. one-not ok slip go (c .before .before .before .before .before .before .skip .result .line) _ _ _ (c .before .before .before .before .before .before .skip .ensures .1 ∙ rest-word _ (c .before .before .before .before .before .before .skip .result .at) (c .before .before .before .before .before .if1 .left) (c .before .before .before .before .before .before .skip .result .line) (c .before .before .before .before .before .before .skip .ensures .2 (c .before .before .before .before .before .if1 .left)) ∙ c .before .before .before .before .word-end .ensures .2 (c .before .before .before .before .before .before .skip .result .line)) (sym (c .enum-told .given .1) ∙ c .before .before .read-word .ensures)
+returns-3 c =
+    let read = c .before .before in
+    let ended = read .before .before in
+    let tested = ended .before in
+    let skipped = tested .before .skip in
+    let line = skipped .result .line in
+    λ ok slip go. one-not ok slip go line _ _ _ (skipped .ensures .1 ∙ rest-word _ (skipped .result .at) (tested .if1 .left) line (skipped .ensures .2 (tested .if1 .left)) ∙ ended .word-end .ensures .2 line) (sym (c .enum-told .given .1) ∙ read .read-word .ensures)
 
 returns-4 : tie.Need-returns-4
 unfolding Takes
-returns-4 c = λ ok slip go. one-large ok slip go (c .before .before .before .before .before .before .skip .result .line) _ _ _ (c .before .before .before .before .before .before .skip .ensures .1 ∙ rest-word _ (c .before .before .before .before .before .before .skip .result .at) (c .before .before .before .before .before .if1 .left) (c .before .before .before .before .before .before .skip .result .line) (c .before .before .before .before .before .before .skip .ensures .2 (c .before .before .before .before .before .if1 .left)) ∙ c .before .before .before .before .word-end .ensures .2 (c .before .before .before .before .before .before .skip .result .line)) (sym (c .enum-told2 .given .1) ∙ c .before .before .read-word .ensures)
+returns-4 c =
+    let read = c .before .before in
+    let ended = read .before .before in
+    let tested = ended .before in
+    let skipped = tested .before .skip in
+    let line = skipped .result .line in
+    λ ok slip go. one-large ok slip go line _ _ _ (skipped .ensures .1 ∙ rest-word _ (skipped .result .at) (tested .if1 .left) line (skipped .ensures .2 (tested .if1 .left)) ∙ ended .word-end .ensures .2 line) (sym (c .enum-told2 .given .1) ∙ read .read-word .ensures)
 
 pub take-number-spec : {M : Type 1} → statement M
 take-number-spec =

@@ -15,21 +15,32 @@ add-put-rows c = search needs
 
 put-rows-requires : tie.Need-put-rows-requires
 unfolding basisText
-put-rows-requires c κs = (omega arith, omega arith, c .before .before .before .before .before .before .before .before .pre .2, c .before .before .before .before .before .before .before .before .pre .3, room-rest (room-first _ _ (c .before .before .before .before .before .before .before .before .pre .4)) (c .before .before .before .put-heading .ensures))
+put-rows-requires c κs =
+    let at-put-heading = c .before .before .before in
+    let start = at-put-heading .before .before .before .before .before in
+    (omega arith, omega arith, start .pre .2, start .pre .3, room-rest (room-first _ _ (start .pre .4)) (at-put-heading .put-heading .ensures))
 
 slice-aggregate-put-numbered : tie.Need-slice-aggregate-put-numbered
 slice-aggregate-put-numbered c = search needs
 
 put-numbered-requires : tie.Need-put-numbered-requires
 unfolding basisText
-put-numbered-requires c κs = room-rest (c .before .before .before .before .before .before .before .before .before .before .before .before .before .pre .4) (wrote-append (c .before .before .before .before .before .before .before .before .put-heading .ensures) (c .before .before .before .before .put-rows .ensures))
+put-numbered-requires c κs =
+    let at-put-rows = c .before .before .before .before in
+    let at-put-heading = at-put-rows .before .before .before .before in
+    let start = at-put-heading .before .before .before .before .before in
+    room-rest (start .pre .4) (wrote-append (at-put-heading .put-heading .ensures) (at-put-rows .put-rows .ensures))
 
 same-length : tie.Need-same-length
 same-length c = search needs
 
 returns : tie.Need-returns
 unfolding basisText
-returns c = wrote-append (wrote-append (c .before .before .before .before .before .before .before .before .before .before .before .put-heading .ensures) (c .before .before .before .before .before .before .before .put-rows .ensures)) (c .before .before .put-numbered .ensures)
+returns c =
+    let at-put-numbered = c .before .before in
+    let at-put-rows = at-put-numbered .before .before .before .before .before in
+    let at-put-heading = at-put-rows .before .before .before .before in
+    wrote-append (wrote-append (at-put-heading .put-heading .ensures) (at-put-rows .put-rows .ensures)) (at-put-numbered .put-numbered .ensures)
 
 pub put-basis-spec : {M : Type 1} → statement M
 put-basis-spec =

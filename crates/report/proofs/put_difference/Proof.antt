@@ -19,7 +19,11 @@ sub-put-decimal : tie.Need-sub-put-decimal
 sub-put-decimal c = search needs
 
 put-decimal-requires : tie.Need-put-decimal-requires
-put-decimal-requires c κs = room-rest (room-same (signed-low _ _ (c .before .before .before .before .before .before .if1 .taken)) (c .before .before .before .before .before .before .before .before .pre)) (c .before .before .before .put .ensures)
+put-decimal-requires c κs =
+    let at-put = c .before .before .before in
+    let at-if1 = at-put .before .before .before in
+    let start = at-if1 .before .before in
+    room-rest (room-same (signed-low _ _ (at-if1 .if1 .taken)) (start .pre)) (at-put .put .ensures)
 
 put-decimal-requires-2 : tie.Need-put-decimal-requires-2
 put-decimal-requires-2 c κs = room-same (signed-high _ _ (c .before .if1 .left)) (c .before .before .before .pre)
@@ -28,7 +32,11 @@ same-length : tie.Need-same-length
 same-length c = search needs
 
 returns : tie.Need-returns
-returns c = wrote-same (sym (signed-low _ _ (c .before .before .before .before .before .before .before .before .before .if1 .taken))) (wrote-append (c .before .before .before .before .before .before .put .ensures) (c .before .before .put-decimal .ensures))
+returns c =
+    let at-put-decimal = c .before .before in
+    let at-put = at-put-decimal .before .before .before .before in
+    let at-if1 = at-put .before .before .before in
+    wrote-same (sym (signed-low _ _ (at-if1 .if1 .taken))) (wrote-append (at-put .put .ensures) (at-put-decimal .put-decimal .ensures))
 
 same-length-2 : tie.Need-same-length-2
 same-length-2 c = search needs

@@ -26,28 +26,48 @@ used-requires c κs = search needs
 
 put-number-requires : tie.Need-put-number-requires
 unfolding entryText numbers each
-put-number-requires c κs = room-same (ap numbers (shown-zero _ (sym (c .before .before .used .ensures) ∙ c .before .if1 .taken))) (room-rest (c .before .before .before .before .before .before .before .before .before .before .pre) (c .before .before .before .before .before .put .ensures))
+put-number-requires c κs =
+    let at-used = c .before .before in
+    let at-put = at-used .before .before .before in
+    let start = at-put .before .before .before .before .before in
+    room-same (ap numbers (shown-zero _ (sym (at-used .used .ensures) ∙ c .before .if1 .taken))) (room-rest (start .pre) (at-put .put .ensures))
 
 slice-aggregate-put-numbers : tie.Need-slice-aggregate-put-numbers
 slice-aggregate-put-numbers c = sym (length-take-le _ _ (omega (arith, trim-short (c .before .before .before .before .before .before .before .before .before .before .args .entry .now), c .before .before .used .ensures)))
 
 put-numbers-requires : tie.Need-put-numbers-requires
 unfolding entryText
-put-numbers-requires c κs = room-same (ap numbers (shown-front _ (λ z. c .before .before .if1 .left (c .before .before .before .used .ensures ∙ z)) ∙ ap (λ (j : ℕ). take j (c .before .before .before .before .before .before .before .before .before .before .before .args .entry .now)) (sym (c .before .before .before .used .ensures)))) (room-rest (c .before .before .before .before .before .before .before .before .before .before .before .pre) (c .before .before .before .before .before .before .put .ensures))
+put-numbers-requires c κs =
+    let at-if1 = c .before .before in
+    let at-used = at-if1 .before in
+    let at-put = at-used .before .before .before in
+    let start = at-put .before .before .before .before .before in
+    room-same (ap numbers (shown-front _ (λ z. at-if1 .if1 .left (at-used .used .ensures ∙ z)) ∙ ap (λ (j : ℕ). take j (start .args .entry .now)) (sym (at-used .used .ensures)))) (room-rest (start .pre) (at-put .put .ensures))
 
 same-length : tie.Need-same-length
 same-length c = search needs
 
 returns : tie.Need-returns
 unfolding entryText numbers each
-returns c = wrote-append (c .before .before .before .before .before .before .before .before .put .ensures) (wrote-same (sym (ap numbers (shown-zero _ (sym (c .before .before .before .before .before .used .ensures) ∙ c .before .before .before .before .if1 .taken)))) (c .before .before .put-number .ensures))
+returns c =
+    let at-put-number = c .before .before in
+    let at-if1 = at-put-number .before .before in
+    let at-used = at-if1 .before in
+    let at-put = at-used .before .before .before in
+    wrote-append (at-put .put .ensures) (wrote-same (sym (ap numbers (shown-zero _ (sym (at-used .used .ensures) ∙ at-if1 .if1 .taken)))) (at-put-number .put-number .ensures))
 
 same-length-2 : tie.Need-same-length-2
 same-length-2 c = search needs
 
 returns-2 : tie.Need-returns-2
 unfolding entryText
-returns-2 c = wrote-append (c .before .before .before .before .before .before .before .before .before .put .ensures) (wrote-same (sym (ap numbers (shown-front _ (λ z. c .before .before .before .before .before .if1 .left (c .before .before .before .before .before .before .used .ensures ∙ z)) ∙ ap (λ (j : ℕ). take j (c .before .before .before .before .before .before .before .before .before .before .before .before .before .before .args .entry .now)) (sym (c .before .before .before .before .before .before .used .ensures))))) (c .before .before .put-numbers .ensures))
+returns-2 c =
+    let at-put-numbers = c .before .before in
+    let at-if1 = at-put-numbers .before .before .before in
+    let at-used = at-if1 .before in
+    let at-put = at-used .before .before .before in
+    let start = at-put .before .before .before .before .before in
+    wrote-append (at-put .put .ensures) (wrote-same (sym (ap numbers (shown-front _ (λ z. at-if1 .if1 .left (at-used .used .ensures ∙ z)) ∙ ap (λ (j : ℕ). take j (start .args .entry .now)) (sym (at-used .used .ensures))))) (at-put-numbers .put-numbers .ensures))
 
 pub put-entry-spec : {M : Type 1} → statement M
 put-entry-spec =

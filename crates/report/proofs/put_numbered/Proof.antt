@@ -18,14 +18,22 @@ slice-aggregate-put c = search needs
 
 put-requires-2 : tie.Need-put-requires-2
 unfolding numbered
-put-requires-2 c κs = room-rest (c .before .before .before .before .before .before .before .before .before .before .before .before .pre) (wrote-append (c .before .before .before .before .before .before .before .before .put .ensures) (c .before .before .before .before .put-number .ensures))
+put-requires-2 c κs =
+    let at-put-number = c .before .before .before .before in
+    let at-put = at-put-number .before .before .before .before in
+    let start = at-put .before .before .before .before in
+    room-rest (start .pre) (wrote-append (at-put .put .ensures) (at-put-number .put-number .ensures))
 
 same-length : tie.Need-same-length
 same-length c = search needs
 
 returns : tie.Need-returns
 unfolding numbered
-returns c = wrote-append (wrote-append (c .before .before .before .before .before .before .before .before .before .before .before .put .ensures) (c .before .before .before .before .before .before .before .put-number .ensures)) (c .before .before .put2 .ensures)
+returns c =
+    let at-put2 = c .before .before in
+    let at-put-number = at-put2 .before .before .before .before .before in
+    let at-put = at-put-number .before .before .before .before in
+    wrote-append (wrote-append (at-put .put .ensures) (at-put-number .put-number .ensures)) (at-put2 .put2 .ensures)
 
 pub put-numbered-spec : {M : Type 1} → statement M
 put-numbered-spec =

@@ -25,7 +25,10 @@ degree-of-requires : tie.Need-degree-of-requires
 degree-of-requires c κs = search needs
 
 put-line-requires : tie.Need-put-line-requires
-put-line-requires c κs = (c .before .before .before .before .before .pre .0, c .before .before .before .before .before .pre .1, c .before .before .before .before .before .pre .2, room-same (sym (at-pivot _ _ _ _ _ _ (c .before .degree-of .ensures ∙ ap degree (c .before .before .part-at .ensures)))) (c .before .before .before .before .before .pre .3))
+put-line-requires c κs =
+    let at-part-at = c .before .before in
+    let start = at-part-at .before .before .before in
+    (start .pre .0, start .pre .1, start .pre .2, room-same (sym (at-pivot _ _ _ _ _ _ (c .before .degree-of .ensures ∙ ap degree (at-part-at .part-at .ensures)))) (start .pre .3))
 
 same-length : tie.Need-same-length
 same-length c = search needs

@@ -35,11 +35,18 @@ mul-size-2 c =
 
 returns-3 : tie.Need-returns-3
 unfolding Outcome First
-returns-3 c = inr (4, inr ((λ t. ⊎-elim (λ h. omega arith) (λ h. omega (arith, ltb-false 8 (c .before .before .before .before .args .n) (c .before .before .if2 .left))) t), inr ((λ h. omega arith), inl (⊎-elim (λ w. inl (w .taken)) (λ w. inr (⊎-elim (λ v. inl (eqb-false _ _ (not-true _ (v .1 .taken)))) (λ v. inr (eqb-false _ _ (not-true _ (v .2 .taken)))) w)) (c .if4 .came), refl))), refl)
+returns-3 c =
+    let at-if2 = c .before .before in
+    let start = at-if2 .before .before in
+    inr (4, inr ((λ t. ⊎-elim (λ h. omega arith) (λ h. omega (arith, ltb-false 8 (start .args .n) (at-if2 .if2 .left))) t), inr ((λ h. omega arith), inl (⊎-elim (λ w. inl (w .taken)) (λ w. inr (⊎-elim (λ v. inl (eqb-false _ _ (not-true _ (v .1 .taken)))) (λ v. inr (eqb-false _ _ (not-true _ (v .2 .taken)))) w)) (c .if4 .came), refl))), refl)
 
 returns-4 : tie.Need-returns-4
 unfolding Outcome NoTest
-returns-4 c = inl (((λ t. ⊎-elim (λ h. omega arith) (λ h. omega (arith, ltb-false 8 (c .before .before .before .before .before .before .args .n) (c .before .before .before .before .if2 .left))) t), ((λ h. omega arith), ((λ t. ⊎-elim (λ h. h (c .before .before .if4 .left)) (λ w. ⊎-elim (λ h. h (eqb-true _ _ (not-false _ (c .before .if5 .left)))) (λ h. h (eqb-true _ _ (not-false _ (c .if6 .left)))) w) t), tt))), refl)
+returns-4 c =
+    let at-if4 = c .before .before in
+    let at-if2 = at-if4 .before .before in
+    let start = at-if2 .before .before in
+    inl (((λ t. ⊎-elim (λ h. omega arith) (λ h. omega (arith, ltb-false 8 (start .args .n) (at-if2 .if2 .left))) t), ((λ h. omega arith), ((λ t. ⊎-elim (λ h. h (at-if4 .if4 .left)) (λ w. ⊎-elim (λ h. h (eqb-true _ _ (not-false _ (c .before .if5 .left)))) (λ h. h (eqb-true _ _ (not-false _ (c .if6 .left)))) w) t), tt))), refl)
 
 pub test-basis-spec : {M : Type 1} → statement M
 test-basis-spec =

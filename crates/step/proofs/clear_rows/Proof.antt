@@ -35,13 +35,22 @@ plus-product-requires : tie.Need-plus-product-requires Inv-loop μ-loop
 plus-product-requires c κs = omega arith
 
 mul-start : tie.Need-mul-start Inv-loop μ-loop
-mul-start c = omega (arith, part-fits (c .before .before .before .before .before .before .args .n) (c .before .before .before .before .before .before .args .n * c .before .before .before .before .before .before .args .width) (c .before .before .before .loop .l) (omega arith))
+mul-start c =
+    let at-loop = c .before .before .before in
+    let start = at-loop .before .before .before in
+    omega (arith, part-fits (start .args .n) (start .args .n * start .args .width) (at-loop .loop .l) (omega arith))
 
 add-end : tie.Need-add-end Inv-loop μ-loop
-add-end c = omega (arith, part-fits (c .before .before .before .before .before .before .args .n) (c .before .before .before .before .before .before .args .n * c .before .before .before .before .before .before .args .width) (c .before .before .before .loop .l) (omega arith))
+add-end c =
+    let at-loop = c .before .before .before in
+    let start = at-loop .before .before .before in
+    omega (arith, part-fits (start .args .n) (start .args .n * start .args .width) (at-loop .loop .l) (omega arith))
 
 mul-add-row-multiple : tie.Need-mul-add-row-multiple Inv-loop μ-loop
-mul-add-row-multiple c = omega (arith, part-fits (c .before .before .before .before .before .before .args .n) (c .before .before .before .before .before .before .args .n * c .before .before .before .before .before .before .args .width) (c .before .before .before .loop .l) (omega arith))
+mul-add-row-multiple c =
+    let at-loop = c .before .before .before in
+    let start = at-loop .before .before .before in
+    omega (arith, part-fits (start .args .n) (start .args .n * start .args .width) (at-loop .loop .l) (omega arith))
 
 sub-add-row-multiple : tie.Need-sub-add-row-multiple Inv-loop μ-loop
 sub-add-row-multiple c = omega arith
@@ -50,7 +59,10 @@ part-add-row-multiple-start : tie.Need-part-add-row-multiple-start Inv-loop μ-l
 part-add-row-multiple-start c = omega arith
 
 part-add-row-multiple-end : tie.Need-part-add-row-multiple-end Inv-loop μ-loop
-part-add-row-multiple-end c = omega (arith, part-fits (c .before .before .before .before .before .before .args .n) (c .before .before .before .before .before .before .args .n * c .before .before .before .before .before .before .args .width) (c .before .before .before .loop .l) (omega arith))
+part-add-row-multiple-end c =
+    let at-loop = c .before .before .before in
+    let start = at-loop .before .before .before in
+    omega (arith, part-fits (start .args .n) (start .args .n * start .args .width) (at-loop .loop .l) (omega arith))
 
 add-row-multiple-requires : tie.Need-add-row-multiple-requires Inv-loop μ-loop
 unfolding row
