@@ -1,5 +1,5 @@
 -- `read_numbers` meets its contract: the numbers taken so far stand in front.
-use mathlib.Core.Path.{_≡_, refl, sym, _∙_}
+use mathlib.Core.Path.{_≡_, refl, _∙_}
 use mathlib.Core.List.{List, _++_}
 use Prim.Native.Nat.{ℕ, _-_, _≤_}
 use native.Mathlib.Omega.{arith}
@@ -14,7 +14,11 @@ use Rattle.jobtext.proofs.read_numbers.Statement.{statement}
 use Rattle.jobtext.proofs.read_numbers.Tie as tie
 
 abbrev Inv-loop : tie.InvT-loop
-Inv-loop text at line limit slip out₀ here₀ count₀ k₀ out here count k = Position text here count × (k ≤ length out) × (length out ≡ length out₀) × ((go : List ℕ → Tokens → JobText) → many (below limit) slip (length out) go (rest text at line) ≡ many (below limit) slip (length out - k) (λ x. go (take k out ++ x)) (rest text here count))
+Inv-loop text at line limit slip out₀ here₀ count₀ k₀ out here count k =
+    Position text here count × (k ≤ length out) × (length out ≡ length out₀)
+    × ((go : List ℕ → Tokens → JobText)
+    → many (below limit) slip (length out) go (rest text at line)
+    ≡ many (below limit) slip (length out - k) (λ x. go (take k out ++ x)) (rest text here count))
 
 abbrev μ-loop : tie.MeasureT-loop
 μ-loop text at line limit slip out₀ here₀ count₀ k₀ out here count k = length out - k
@@ -36,9 +40,13 @@ same-length c = c .before .before .before .before .before .before .loop .inv .2
 returns : tie.Need-returns Inv-loop μ-loop
 unfolding Fills below
 returns c =
-    let a = c .before .before .before .before .before .before .before .before .before .args in
+    let told = c .before .before .value .given in
+    let taken = c .before .before .before .before .take-number .ensures in
     let l = c .before .before .before .before .before .before .loop in
-    λ go. l .inv .3 go ∙ many-failed (below (a .limit)) (a .slip) go (take (l .k) (l .out)) (length (l .out)) (l .k) (omega arith) (rest (a .text .now) (l .here) (l .count)) (c .before .before .value .given .0 .0) (c .before .before .value .given .0 .1 .1 .0) _ ((took-number _ _ (c .before .before .value .given .1) (c .before .before .before .before .take-number .ensures)) .1) (le-ltb _ _ (c .if1 .taken))
+    let a = c .before .before .before .before .before .before .before .before .before .args in
+    λ go.
+    l .inv .3 go
+    ∙ many-failed (below (a .limit)) (a .slip) go (take (l .k) (l .out)) (length (l .out)) (l .k) (omega arith) (rest (a .text .now) (l .here) (l .count)) (told .0 .0) (told .0 .1 .1 .0) _ (took-number _ _ (told .1) taken .1) (le-ltb _ _ (c .if1 .taken))
 
 mul-out : tie.Need-mul-out Inv-loop μ-loop
 mul-out c = omega arith
@@ -55,9 +63,15 @@ loop-less c = simp length-set (omega arith)
 loop-again : tie.Need-loop-again Inv-loop μ-loop
 unfolding below
 loop-again c =
-    let a = c .before .before .before .before .before .before .before .before .before .args in
+    let told = c .before .before .value .given in
+    let next = took-number _ _ (told .1) (c .before .before .before .before .take-number .ensures) in
     let l = c .before .before .before .before .before .before .loop in
-    ((took-number _ _ (c .before .before .value .given .1) (c .before .before .before .before .take-number .ensures)) .0, simp length-set (omega arith), length-set (l .out) (l .k) (c .before .before .value .given .0 .0) ∙ l .inv .2, λ go. set-turn (below (a .limit)) (a .slip) go (rest (a .text .now) (a .at) (a .line)) (l .out) (l .k) (c .before .before .value .given .0 .0) (c .before .before .value .given .0 .1 .1 .0) (rest (a .text .now) (l .here) (l .count)) _ (omega arith) (lt-ltb _ _ (c .if1 .left)) ((took-number _ _ (c .before .before .value .given .1) (c .before .before .before .before .take-number .ensures)) .1) (l .inv .3 go))
+    let a = c .before .before .before .before .before .before .before .before .before .args in (
+      next .0,
+      simp length-set (omega arith),
+      length-set (l .out) (l .k) (told .0 .0) ∙ l .inv .2,
+      λ go. set-turn (below (a .limit)) (a .slip) go (rest (a .text .now) (a .at) (a .line)) (l .out) (l .k) (told .0 .0) (told .0 .1 .1 .0) (rest (a .text .now) (l .here) (l .count)) _ (omega arith) (lt-ltb _ _ (c .if1 .left)) (next .1) (l .inv .3 go),
+    )
 
 enum-known-found : tie.Need-enum-known-found Inv-loop μ-loop
 enum-known-found c = search needs

@@ -14,7 +14,9 @@ use Rattle.step.proofs.step.Statement.{statement}
 use Rattle.step.proofs.step.Tie as tie
 
 -- the row that was found
-first : (c : tie.After-known-told) → FirstRow (c .before .before .before .before .before .before .before .before .before .args .n) (λ l. getD (c .before .before .before .before .coefficients .result) l 0) (rowWeight (c .before .before .before .before .before .before .before .before .before .args .n) (c .before .before .before .before .before .before .before .before .before .args .d .now) (c .before .before .before .before .before .before .before .before .before .args .t5)) (c .before .i .given .0 .0)
+first : (c : tie.After-known-told)
+    → let start = c .before .before .before .before .before .before .before .before .before .args in
+    FirstRow (start .n) (λ l. getD (c .before .before .before .before .coefficients .result) l 0) (rowWeight (start .n) (start .d .now) (start .t5)) (c .before .i .given .0 .0)
 first c = rw (c .before .i .given .1) at (c .before .before .before .least-row .ensures)
 
 add-width : tie.Need-add-width
@@ -87,10 +89,18 @@ same-length-2 c = search needs
 
 returns-2 : tie.Need-returns-2
 returns-2 c =
-    let pre = c .before .before .before .before .before .before .before .before .before .before .before .before .before .before .before .pre in
-    let moved = c .before .before .before .move-row .ensures in (
+    let moved = c .before .before .before .move-row .ensures in
+    let inverted = c .before .before .before .before .before in
+    let found = inverted .before in
+    let row = found .before .i .given .0 .0 in
+    let start = found .before .before .before .before .before .before .before .before .before in
+    let pre = start .pre in
+    let tops = start .args .t5 in
+    let inside = first found .row< in (
       moved .0,
-      next-moved (pre .0 .0) (pre .1) _ (c .before .before .before .before .before .before .before .before .before .before .coefficients .ensures) _ _ _ _ (first (c .before .before .before .before .before .before)) (c .before .before .before .before .before .inverse .ensures) (moved .1) (raised (c .before .before .before .before .before .before .before .before .before .before .before .before .before .before .before .args .t5) _ _ (omega (arith, first (c .before .before .before .before .before .before) .row<, c .before .before .before .before .before .before .before .before .before .before .before .before .before .before .before .good .1 .1 .1 .1 .0, c .before .before .before .before .before .before .before .before .before .before .before .before .before .before .before .pre .0 .1)) refl) (λ l h ne. kept (c .before .before .before .before .before .before .before .before .before .before .before .before .before .before .before .args .t5) _ l (record { 0 = degreeAt (c .before .before .before .before .before .before .before .before .before .before .before .before .before .before .before .args .t5) (c .before .before .before .before .before .before .before .i .given .0 .0) + 1 }) ne),
+      next-moved (pre .0 .0) (pre .1) _ (found .before .before .before .before .coefficients .ensures) _ _ _ _ (first found) (inverted .inverse .ensures) (moved .1)
+          (raised tops _ _ (omega (arith, inside, start .good .1 .1 .1 .1 .0, pre .0 .1)) refl)
+          (λ l h ne. kept tops _ l (record { 0 = degreeAt tops row + 1 }) ne),
     )
 
 pub step-spec : {M : Type 1} → statement M
