@@ -3,7 +3,7 @@
 // Every function takes numbers and lent buffers (a pointer and the number of its elements), keeps nothing between
 // calls, allocates nothing and never reads or writes outside what is lent. It answers a status word: 0, or the number
 // of the first test in its order that holds. On any status but 0 every buffer stays as lent. A pointer to a buffer of
-// length 0 is not used, but must not be null. Lent buffers must not overlap.
+// length 0 is not used, but must not be null. Lent buffers must not overlap. The number of elements of x is x_len.
 //
 //    1  p below 2, above 2147483647 or composite       7  k outside 1 to N
 //    2  n outside 1 to 8                               8  file length zero, not a multiple of 512, or over 8704 bytes
@@ -47,21 +47,21 @@ uint32_t relations_multiply(uint32_t p, uint32_t a, uint32_t b, uint32_t *answer
 uint32_t relations_invert(uint32_t p, uint32_t a, uint32_t *answer, size_t answer_len);
 
 // The reduced minimal basis of the relations to order s between n series.
-// type: n words. series: n * s words, series by series, low coefficient first. basis: n * n * (s + 1) words, row by row,
-// entry by entry, s + 1 coefficients each, low first, unused places zero. answer: 2 words, the number (from 1) of the row of
-// least shifted degree and how many of the orders 0 to s - 1 made the set of relations smaller.
+// d: the type, n words. series: n * s words, series by series, low coefficient first. basis: n * n * (s + 1) words, row by
+// row, entry by entry, s + 1 coefficients each, low first, unused places zero. answer: 2 words, the number (from 1) of the row
+// of least shifted degree and how many of the orders 0 to s - 1 made the set of relations smaller.
 // Order: 1, 2, 3, 4, 5, 6.
 uint32_t relations_basis(uint32_t p, uint32_t n, uint32_t s,
-                         const uint32_t *type, size_t type_len,
+                         const uint32_t *d, size_t d_len,
                          const uint32_t *series, size_t series_len,
                          uint32_t *basis, size_t basis_len,
                          uint32_t *answer, size_t answer_len);
 
-// The same at the order of the type, s = (type[0] + 1) + .. + (type[n - 1] + 1) - 1. The row answer[0] is an approximant:
-// its entry i has degree at most type[i - 1].
+// The same at the order of the type, s = (d[0] + 1) + .. + (d[n - 1] + 1) - 1. The row answer[0] is an approximant:
+// its entry i has degree at most d[i - 1].
 // Order: 1, 2, 4 for the type, 5, 3 for that order, 4 for the rest, 6.
 uint32_t relations_approximant(uint32_t p, uint32_t n,
-                               const uint32_t *type, size_t type_len,
+                               const uint32_t *d, size_t d_len,
                                const uint32_t *series, size_t series_len,
                                uint32_t *basis, size_t basis_len,
                                uint32_t *answer, size_t answer_len);
@@ -80,27 +80,27 @@ uint32_t relations_row(uint32_t n, uint32_t s, uint32_t i,
                        const uint32_t *basis, size_t basis_len,
                        uint32_t *answer, size_t answer_len);
 
-// Reads a job file. type: RELATIONS_TYPE words, of which the first n are written. series: RELATIONS_SERIES words, of which
-// the first n * s are written. answer: 3 words, p, n and s.
+// Reads a job file. d: RELATIONS_TYPE words, of which the first n are written, the type. series: RELATIONS_SERIES words, of
+// which the first n * s are written. answer: 3 words, p, n and s.
 // Order: 4; 8; block by block 9, 10; 1, 2, 3, 11, 12, 5, 6.
 uint32_t relations_read(const uint8_t *file, size_t file_len,
-                        uint32_t *type, size_t type_len,
+                        uint32_t *d, size_t d_len,
                         uint32_t *series, size_t series_len,
                         uint32_t *answer, size_t answer_len);
 
 // Writes a job file. file: RELATIONS_FILE bytes, of which only the file's own are written. answer: 1 word, the number of blocks
 // of 512 bytes. Order: 1, 2, 3, 4, 5, 6.
 uint32_t relations_write(uint32_t p, uint32_t n, uint32_t s,
-                         const uint32_t *type, size_t type_len,
+                         const uint32_t *d, size_t d_len,
                          const uint32_t *series, size_t series_len,
                          uint8_t *file, size_t file_len,
                          uint32_t *answer, size_t answer_len);
 
 // The text of a basis as the program `relations` prints it: a line with p, n, s and the type, a line for each row, and the line of the
-// least row. The words are taken as they are. type: n words. basis: n * n * (s + 1) words. text: RELATIONS_TEXT bytes, of which only
-// the text's own are written, with no zero byte at the end. answer: 1 word, the number of bytes. Order: 2, 3, 4.
+// least row. The words are taken as they are. d: the type, n words. basis: n * n * (s + 1) words. text: RELATIONS_TEXT bytes, of which
+// only the text's own are written, with no zero byte at the end. answer: 1 word, the number of bytes. Order: 2, 3, 4.
 uint32_t relations_text(uint32_t p, uint32_t n, uint32_t s,
-                        const uint32_t *type, size_t type_len,
+                        const uint32_t *d, size_t d_len,
                         const uint32_t *basis, size_t basis_len,
                         uint32_t least,
                         uint8_t *text, size_t text_len,
@@ -118,12 +118,12 @@ uint32_t relations_print(const uint8_t *file, size_t file_len,
                          uint32_t *answer, size_t answer_len);
 
 // Reads a text job: the numbers p, n, s, the n type entries, then n * s coefficients and nothing more, separated by spaces, tabs and
-// ends of line; `#` begins a comment that ends with its line. type: RELATIONS_TYPE words, of which the first n are written. series:
-// RELATIONS_SERIES words, of which the first n * s are written. Their lengths are not passed. answer: 3 words, p, n and s.
+// ends of line; `#` begins a comment that ends with its line. d: RELATIONS_TYPE words, of which the first n are written, the type.
+// series: RELATIONS_SERIES words, of which the first n * s are written. Their lengths are not passed. answer: 3 words, p, n and s.
 // The status is that of the first number, from the front, at which something is wrong: 1, 2, 3, 5, 6 or RELATIONS_NOT_NUMBER to
 // RELATIONS_TOO_MANY.
 uint32_t relations_parse(const uint8_t *text, size_t text_len,
-                         uint32_t type[RELATIONS_TYPE], uint32_t series[RELATIONS_SERIES],
+                         uint32_t d[RELATIONS_TYPE], uint32_t series[RELATIONS_SERIES],
                          uint32_t *answer, size_t answer_len);
 
 // The line, counted from 1, of what is wrong with a text job; 0 where nothing is.

@@ -1,17 +1,22 @@
 #!/usr/bin/env python3
-"""What the test programs must print, worked out by tools/reference.py (see docs/REFERENCE.md).
+"""The inputs and expected outputs of the programs, worked out by tools/reference.py (see docs/REFERENCE.md).
 
-  tools/expected.py vectors          the expected output of the program `vectors`
-  tools/expected.py cases            the same cases as its source src/cases.rt
-  tools/expected.py field < LINES    the lines of the program `field_vectors`, with each result worked out anew
-  tools/expected.py damage           the expected output of the program `damage`
-  tools/expected.py texts FOLDER     the job files, names and expected output of the program `texts`
+  tools/expected.py PART       prints the one file of the table FILES that has PART in its path
+  tools/expected.py --write    writes all of them
 """
+import functools
 import os
 import sys
 
 import reference
 from reference import LARGEST, Refused, checks
+
+TOP = os.path.dirname(os.path.dirname(os.path.abspath(__file__)))
+
+
+def spaced(numbers):
+    return ' '.join(map(str, numbers))
+
 
 # ---- Numbers that look random ---------------------------------------------------------------
 
@@ -113,20 +118,13 @@ PAIR_JOBS = [  # p, k, N, zeros, series rule, seed
 ]
 
 
-def result(call):
-    try:
-        return call()
-    except Refused as refusal:
-        return f'refused {refusal.number} kept'
-
-
 def answer_text(n, s, answer, out):
     pivots = []
     for i in range(n):
         first, _ = reference.row_view(n, s, i + 1, len(out))
         entry = out[first + i * (s + 1):first + (i + 1) * (s + 1)]
         pivots.append(max(t for t, a in enumerate(entry) if a))
-    return 'least {} count {} pivots {} checks {} {}'.format(*answer, ' '.join(map(str, pivots)), *checks(out))
+    return 'least {} count {} pivots {} checks {} {}'.format(*answer, spaced(pivots), *checks(out))
 
 
 def run_basis_job(p, n, s, *rules):
@@ -205,6 +203,7 @@ ROW_VIEWS = [(2, 3, 1, 16), (2, 3, 2, 16), (1, 0, 1, 1), (8, 0, 8, 64)] + [(8, 2
     (2, 3, 0, 16), (2, 3, 3, 16), (2, 3, 4294967295, 16), (2, 3, 1, 15), (2, 3, 1, 17), (2, 3, 1, 0), (0, 3, 1, 0), (0, 3, 0, 0),
     (9, 0, 1, 81), (9, 3, 9, 324), (1, 256, 1, 257), (4294967295, 3, 1, 16), (2, 4294967295, 1, 0), (8, 255, 9, 16384), (8, 255, 8, 16383)]
 
+
 def with_word(words, at, word):
     if at < len(words):
         words[at] = word
@@ -213,9 +212,11 @@ def with_word(words, at, word):
 
 def kept(call, *buffers):
     """The call's result text; a refusal must leave every buffer full of 77."""
-    text = result(call)
-    assert not text.startswith('refused') or all(set(b) <= {77} for b in buffers)
-    return text
+    try:
+        return call()
+    except Refused as refusal:
+        assert all(set(b) <= {77} for b in buffers)
+        return f'refused {refusal.number} kept'
 
 
 def run_basis_call(p, n, s, type_len, series_len, basis_len, at, type_word, place, series_word):
@@ -258,10 +259,10 @@ SECTIONS = [  # the words at the start of a line, the cases, what a line's resul
 ]
 
 
-def print_vectors():
+def vectors_lines():
     for name, rows, run in SECTIONS:
         for row in rows:
-            print(f'{name} {" ".join(map(str, row))}: {run(*row)}')
+            yield f'{name} {spaced(row)}: {run(*row)}'
 
 
 def arguments_of(name, row):
@@ -272,8 +273,8 @@ def arguments_of(name, row):
     return ', '.join(words)
 
 
-def print_cases():
-    """Functions of at most 30 cases each, and one that calls them all."""
+def cases_lines():
+    """The same cases as source: functions of at most 30 cases each, and one that calls them all."""
     functions = []
     lines = []
     for name, rows, _ in SECTIONS:
@@ -283,132 +284,285 @@ def print_cases():
             lines.append(f'fn {functions[-1]}() {{')
             lines += [f'    run::{called}({arguments_of(name, row)});' for row in rows[at:at + 30]]
             lines += ['}', '']
-    print('// The cases, written by `tools/expected.py cases`.')
-    print('use crate::run;')
-    print()
-    print('pub fn all() {')
-    for function in functions:
-        print(f'    {function}();')
-    print('}')
-    print()
-    print('\n'.join(lines[:-1]))
+    yield from ['// The cases, written by `tools/expected.py cases`.', 'use crate::run;', '', 'pub fn all() {']
+    yield from [f'    {function}();' for function in functions]
+    yield from ['}', '']
+    yield from lines[:-1]
 
 
-def field_result(name, numbers):
-    if name == 'make':
-        return f'is {reference.field(*numbers)}'
-    if name == 'invert':
-        inverse = reference.inverse(*numbers)
-        return 'no inverse' if inverse is None else f'is {inverse}'
-    return f'is {(reference.add if name == "add" else reference.mul)(*numbers)}'
+# ---- The field's calls -------------------------------------------------------------------------
+
+FIELD_CALLS = dict(make=reference.field, add=reference.add, multiply=reference.mul, invert=reference.inverse)
+
+FIELD_CASES = [
+    # the moduli of document 01, and the largest number there is
+    ('make', 2), ('make', 2147483647), ('make', 0), ('make', 1), ('make', 4), ('make', 2147117569), ('make', 2147483648), ('make', 4294967295),
+    # the modulus before either operand, and each operand
+    ('add', 4, 9, 9), ('add', 7, 7, 0), ('add', 7, 0, 7), ('add', 7, 4294967295, 4294967295),
+    ('multiply', 1, 9, 9), ('multiply', 7, 7, 0), ('multiply', 7, 0, 7), ('multiply', 2147483648, 0, 0),
+    # results, at the largest modulus too
+    ('add', 7, 6, 6), ('add', 2, 1, 1), ('add', LARGEST, 2147483646, 2147483646), ('multiply', 7, 3, 5),
+    ('multiply', LARGEST, 65536, 65536), ('multiply', LARGEST, 2147483646, 2147483646), ('multiply', LARGEST, 2147483645, 3),
+    # C10 is the first; zero comes after both tests
+    ('invert', 7, 3), ('invert', 7, 0), ('invert', 9, 0), ('invert', 7, 7), ('invert', 2, 1),
+    ('invert', LARGEST, 2), ('invert', LARGEST, 3), ('invert', LARGEST, 2147483646),
+]
 
 
-def print_field(lines):
-    for line in lines:
-        call = line.split(':')[0]
-        name, *numbers = call.split()
-        print(f'{call}: {result(lambda: field_result(name, list(map(int, numbers)))).replace(" kept", "")}')
+def field_lines():
+    for name, *numbers in FIELD_CASES:
+        said = reference.outcome(FIELD_CALLS[name], *numbers)
+        if not isinstance(said, str):
+            said = 'no inverse' if said is None else f'is {said}'
+        yield f'{name} {spaced(numbers)}: {said}'
 
 
-# ---- Damaged job files -------------------------------------------------------------------------
+# ---- One block ---------------------------------------------------------------------------------
 
-DAMAGE_JOB = (LARGEST, 8, 255, 4, 0, 1, 1)  # 17 blocks
-
-# Single words of the payload replaced and the checks made anew: payload place, new word.
-REPLACED = [(0, 0), (0, 1), (0, 4), (0, 2147117569), (0, 2147483648), (0, 2147483629), (1, 0), (1, 9), (1, 4294967295), (2, 256), (2, 4294967295),
-            (2, 254), (2, 239), (2, 230), (1, 7), (2, 0), (3, 255), (3, 256), (10, 256), (10, 4294967295), (11, 2147483646), (11, 2147483647),
-            (2050, 2147483646), (2050, 2147483647), (2050, 4294967295), (2051, 0), (2051, 1), (2124, 0), (2124, 2147483648), (1000, 2147483647)]
-
-# Two words replaced: the first test in the order decides.
-REPLACED_TWICE = [(0, 4, 1, 9), (0, 4, 3, 256), (1, 9, 2, 256), (2, 256, 3, 256), (2, 256, 2051, 1), (1, 7, 2051, 1), (1, 7, 3, 256),
-                  (2051, 1, 3, 256), (2124, 1, 11, 2147483647), (3, 256, 11, 2147483647), (10, 256, 2050, 2147483647)]
+def block_tests(words):
+    """Whether the block has number 5, and whether its checks are right."""
+    return f'{int(words[0] == 5)} {int(tuple(words[126:]) == checks(words[:126]))}'
 
 
-def reader_text(data, type_len=8, series_len=2040):
-    type_, series = [77] * type_len, [77] * series_len
-
-    def call():
-        p, n, s = reference.read_job(data, type_, series)
-        return 'read {} {} {} type {} {} series {} {}'.format(p, n, s, *checks(type_), *checks(series))
-    return kept(call, type_, series)
-
-
-def replaced(payload, *changes):
-    payload = list(payload)
-    for at in range(0, len(changes), 2):
-        payload[changes[at]] = changes[at + 1]
-    return b''.join(reference.block(b, payload[125 * b:125 * b + 125]) for b in range(len(payload) // 125))
+def block_lines():
+    for at, word in ((0, 0), (1, 7), (0, 4294967295)):
+        yield spaced(checks(with_word([0] * 126, at, word)))
+    words = reference.words_of(reference.block(5, [7, 2, 3] + [0] * 122))
+    yield block_tests(words)
+    words[3] = 4
+    yield block_tests(words)
+    words[126:] = checks(words[:126])
+    words[0] = 6
+    yield block_tests(words)
 
 
-def print_damage():
-    for name, words in (('zeros', [0] * 126), ('word 1 is 7', [0, 7] + [0] * 124), ('word 0 is 4294967295', [4294967295] + [0] * 125)):
-        print('checks, {}: {} {}'.format(name, *checks(words)))
-    p, n, s, *rules = DAMAGE_JOB
-    type_, series = job(p, n, s, *rules)
-    file = reference.layout(p, n, s, type_, series)
-    payload = [w for b in range(17) for w in reference.words_of(file[512 * b:512 * b + 512])[1:126]]
-    print('whole:', reader_text(file))
-    # One byte of a block changed: its number, its first and last payload word, check A, check B (lowest and highest bytes).
-    for b in range(17):
-        numbers = []
-        for at in (0, 3, 4, 503, 504, 507, 508, 511):
-            damaged = bytearray(file)
-            damaged[512 * b + at] = (damaged[512 * b + at] + 1) % 256
-            numbers.append(reader_text(bytes(damaged)).split()[1])
-        print(f'block {b}:', ' '.join(numbers))
-    for length in [0, 1, 511, 512, 513, 1024, 4352, 8192, 8703, 8704, 8705, 9216]:
-        print(f'length {length}:', reader_text((file + bytes(512))[:length]))
-    for lengths in ((7, 2040), (9, 2040), (0, 2040), (8, 2039), (8, 2041), (8, 0)):
-        print('lent {} {}: {}'.format(*lengths, reader_text(file, *lengths)))
-    print('lent 7 2040, length 0:', reader_text(b'', 7))
-    for change in REPLACED + REPLACED_TWICE:
-        print('replaced {}: {}'.format(' '.join(map(str, change)), reader_text(replaced(payload, *change))))
+# ---- Jobs as plain texts -----------------------------------------------------------------------
+
+C1_JOB = '''# C1
+7 2 3        # p, n, s
+0 2          # the type
+6 0 0        # f_1
+1 1 2        # f_2
+'''
+C1 = reference.text_job(C1_JOB)
+
+
+def example_file():
+    with open(os.path.join(TOP, 'examples/catalan.txt')) as text:
+        return reference.layout(*reference.text_job(text.read()))
+
+
+# ---- Job files written, read back and damaged --------------------------------------------------
+
+LARGEST_JOB = (LARGEST, 8, 255, [255, 0, 1, 2, 3, 4, 5, 254], [1000003 * i % LARGEST for i in range(2040)])  # 17 blocks
+
+WRITES = [  # p, n, s, type, series, bytes lent: from the first test of the writer's order to the last, and none
+    (4, 9, 256, [256, 2, 0], [6, 0, 0, 1, 1, 7], 8703),
+    (7, 0, 256, [256, 2, 0], [6, 0, 0, 1, 1, 7], 8703),
+    (7, 9, 256, [256, 2, 0], [6, 0, 0, 1, 1, 7], 8703),
+    (7, 2, 256, [256, 2, 0], [6, 0, 0, 1, 1, 7], 8703),
+    (7, 2, 3, [256, 2, 0], [6, 0, 0, 1, 1, 7], 8704),
+    (7, 2, 3, [256, 2], [6, 0, 0, 1, 7], 8704),
+    (7, 2, 3, [256, 2], [6, 0, 0, 1, 1, 7], 8703),
+    (7, 2, 3, [256, 2], [6, 0, 0, 1, 1, 7], 8705),
+    (7, 2, 3, [256, 2], [6, 0, 0, 1, 1, 7], 8704),
+    (7, 2, 3, [0, 2], [6, 0, 0, 1, 1, 7], 8704),
+    (11, 2, 3, [0, 2], [6, 0, 0, 1, 1, 7], 8704),
+]
+
+# A change of a file: which word, its new value, and whether the checks of its block are made anew.
+SEALED, UNSEALED = True, False
+
+
+def in_each_block(at, word, sealed):
+    return [(at + 128 * b, word, sealed) for b in range(17)]
+
+
+DAMAGES = [  # the line's name, the changes made before, and the one change behind each number of the line
+    ('number', [], in_each_block(0, 4294967295, UNSEALED)),
+    ('check A', [], in_each_block(126, 4294967295, UNSEALED)),
+    ('check B', [], in_each_block(127, 4294967295, UNSEALED)),
+    ('payload', [], in_each_block(60, 4294967295, UNSEALED)),
+    ('coefficient', [], in_each_block(20, LARGEST, SEALED)),
+    ('p', [], [(1, p, SEALED) for p in (0, 1, 4, 2147117569, 2147483648)]),
+    ('n', [], [(2, n, SEALED) for n in (0, 9, 7)]),
+    ('s', [], [(3, s, SEALED) for s in (256, 4294967295, 239, 254)]),
+    ('spare', [], [(at, 1, SEALED) for at in range(2100, 2174)]),
+    ('type', [], [(at, 256, SEALED) for at in range(4, 12)]),
+    ('last', [], [(2099, LARGEST, SEALED)]),
+    ('p and', [(1, 4, SEALED)], [(256, 0, UNSEALED), (254, 0, UNSEALED), (2, 9, SEALED)]),
+    ('type and', [(4, 256, SEALED)], [(3, 200, SEALED), (2173, 1, SEALED), (20, LARGEST, SEALED)]),
+    ('number and', [(128, 7, UNSEALED)], [(126, 0, UNSEALED), (254, 0, UNSEALED)]),
+]
+
+CUT = [  # the line's name, and how many bytes of the file and of 512 zeros after it are read
+    ('blocks', range(0, 9216, 512)), ('and 1', range(1, 9216, 512)), ('and 511', range(511, 9216, 512)), ('18 blocks', [9216]),
+]
+
+LENT = [(8704, 7, 2040), (8704, 9, 2040), (8704, 8, 2039), (8704, 8, 2041), (1, 8, 0), (8704, 8, 2040)]  # bytes read, words lent
+
+
+def written(*arguments):
+    """What the writer says, and the bytes that it was lent full of 170."""
+    *job_, count = arguments
+    out = [170] * count
+    said = reference.outcome(reference.write_job, *job_, out)
+    return said if isinstance(said, str) else f'blocks {said}', out
+
+
+def read(file, type_len=8, series_len=2040):
+    """What the reader says, and the words that it was lent full of 9."""
+    type_, series = [9] * type_len, [9] * series_len
+    said = reference.outcome(reference.read_job, file, type_, series)
+    return said if isinstance(said, str) else f'job {spaced(said)}', type_, series
+
+
+def refusal_of(file):
+    """The number of the reader's refusal, 0 where it accepts."""
+    said, type_, series = read(file)
+    if said.startswith('job'):
+        return 0
+    assert set(type_ + series) == {9}
+    return int(said.split()[1])
+
+
+def damaged(file, changes):
+    words = reference.words_of(file)
+    for at, word, sealed in changes:
+        words[at] = word
+        if sealed:
+            first = at - at % 128
+            words[first + 126:first + 128] = checks(words[first:first + 126])
+    return reference.bytes_of(words)
+
+
+def changed(filled, filling):
+    return sum(word != filling for word in filled)
+
+
+def listed(name, numbers):
+    return name + ''.join(f' {number}' for number in numbers)
+
+
+def worked_file_lines():
+    """C1 written, and read back."""
+    said, out = written(*C1, 8704)
+    yield f'{said} {changed(out[512:], 170)}'
+    file = bytes(out[:512])
+    yield listed('', reference.words_of(file))
+    said, type_, series = read(file)
+    yield said
+    yield listed('', type_)
+    yield listed('', series[:8])
+    yield listed('', [changed(type_, 9), changed(series, 9)])
+
+
+def writer_lines():
+    for row in WRITES:
+        said, out = written(*row)
+        yield f'{said} {changed(out, 170)}'
+
+
+def largest_file_lines():
+    """The largest file written, and read after damage of each kind."""
+    said, out = written(*LARGEST_JOB, 8704)
+    yield said
+    file = bytes(out)
+    for at in (0, 126, 127):
+        yield listed('', reference.words_of(file)[at::128])
+    yield listed('', [refusal_of(file)])
+    for name, before, changes in DAMAGES:
+        yield listed(name, [refusal_of(damaged(file, before + [change])) for change in changes])
+    for name, counts in CUT:
+        yield listed(name, [refusal_of((file + bytes(512))[:count]) for count in counts])
+    yield 'lent'
+    for count, type_len, series_len in LENT:
+        yield read(file[:count], type_len, series_len)[0]
+
+
+def jobfile_lines():
+    yield from worked_file_lines()
+    yield 'writer'
+    yield from writer_lines()
+    yield 'largest'
+    yield from largest_file_lines()
 
 
 # ---- Job files kept as data --------------------------------------------------------------------
 
-def print_texts(folder):
-    """Writes data/NAME for each job file, args (the names, one to a line) and stdout."""
-    c1 = (7, 2, 3, [0, 2], [6, 0, 0, 1, 1, 2])
-    files = {'c1': reference.layout(*c1)}
-    for name, p, s, d, series, *_ in reference.WORKED[1:]:
+DRAWN = [(101, 3, 12, 5, 0, 1, 1), (2, 8, 30, 3, 0, 2, 2), (LARGEST, 2, 60, 6, 2, 1, 3), (LARGEST, 4, 0, 1, 0, 1, 4), (5, 1, 122, 0, 100, 1, 5)]
+
+# One payload word of C1's file replaced: the file's name, the word's place, the word.
+REPLACED = [('modulus', 0, 6), ('series', 1, 9), ('order', 2, 256), ('count', 2, 255), ('spare', 124, 1), ('type', 3, 256), ('coefficient', 5, 7)]
+
+
+@functools.lru_cache(None)
+def job_files():
+    """The files that the program `texts` reads, by name and in its order: sound ones, then one for each of the reader's refusals."""
+    files = {}
+    for name, p, s, d, series, *_ in reference.WORKED:
         files[name.lower()] = reference.layout(p, len(d), s, d, series)
-    for at, row in enumerate([(101, 3, 12, 5, 0, 1, 1), (2, 8, 30, 3, 0, 2, 2), (LARGEST, 2, 60, 6, 2, 1, 3), (LARGEST, 4, 0, 1, 0, 1, 4), (5, 1, 122, 0, 100, 1, 5)]):
-        p, n, s, *rules = row
+    for at, (p, n, s, *rules) in enumerate(DRAWN):
         files[f'drawn{at + 1}'] = reference.layout(p, n, s, *job(p, n, s, *rules))
+    c1 = files['c1']
+    payload = reference.words_of(c1)[1:126]
     files['empty'] = b''
-    files['short'] = files['c1'][:511]
-    files['long'] = files['c1'] * 18
-    files['number'] = reference.block(1, reference.words_of(files['c1'])[1:126])
-    files['check'] = files['c1'][:-1] + b'\1'
-    words = reference.words_of(files['c1'])[1:126]
-    for name, at, word in (('modulus', 0, 6), ('series', 1, 9), ('order', 2, 256), ('count', 2, 255), ('spare', 124, 1), ('type', 3, 256), ('coefficient', 5, 7)):
-        files[name] = reference.block(0, words[:at] + [word] + words[at + 1:])
-    os.makedirs(os.path.join(folder, 'data'), exist_ok=True)
-    for name, data in files.items():
-        with open(os.path.join(folder, 'data', name + '.job'), 'wb') as out:
-            out.write(data)
-    with open(os.path.join(folder, 'args'), 'w') as out:
-        out.writelines(f'{name}.job\n' for name in files)
-    with open(os.path.join(folder, 'stdout'), 'w') as out:
-        for name, data in files.items():
-            out.write(f'{name}.job\n{reference.relations(data)}')
+    files['short'] = c1[:511]
+    files['long'] = c1 * 18
+    files['number'] = reference.block(1, payload)
+    files['check'] = c1[:-1] + b'\1'
+    for name, at, word in REPLACED:
+        files[name] = reference.block(0, payload[:at] + [word] + payload[at + 1:])
+    return {f'{name}.job': file for name, file in files.items()}
+
+
+def texts_lines():
+    for name, file in job_files().items():
+        yield name
+        yield from reference.relations(file).splitlines()
+
+
+# ---- The files ---------------------------------------------------------------------------------
+
+FILES = {  # the path, and the function that gives the file's bytes or its lines
+    'crates/vectors/stdout': vectors_lines,
+    'crates/vectors/src/cases.rt': cases_lines,
+    'crates/field_vectors/stdout': field_lines,
+    'crates/block_vectors/stdout': block_lines,
+    'crates/jobfile_vectors/stdout': jobfile_lines,
+    'crates/texts/args': job_files,
+    'crates/texts/stdout': texts_lines,
+    **{f'crates/texts/data/{name}': lambda name=name: job_files()[name] for name in job_files()},
+    'crates/relations/stdin': lambda: reference.layout(*C1),
+    'crates/relations/stdout': lambda: reference.basis_text(*C1).splitlines(),
+    'crates/job/stdin': C1_JOB.splitlines,
+    'crates/job/stdout': lambda: reference.layout(*C1),
+    'examples/catalan.job': example_file,
+}
+
+
+def contents(path):
+    made = FILES[path]()
+    return made if isinstance(made, bytes) else ''.join(line + '\n' for line in made).encode()
+
+
+def write(path):
+    place = os.path.join(TOP, path)
+    os.makedirs(os.path.dirname(place), exist_ok=True)
+    with open(place, 'wb') as out:
+        out.write(contents(path))
 
 
 def main(arguments):
-    if arguments == ['vectors']:
-        print_vectors()
-    elif arguments == ['cases']:
-        print_cases()
-    elif arguments == ['field']:
-        print_field(sys.stdin)
-    elif arguments == ['damage']:
-        print_damage()
-    elif len(arguments) == 2 and arguments[0] == 'texts':
-        print_texts(arguments[1])
-    else:
-        print(__doc__, file=sys.stderr)
+    if arguments == ['--write']:
+        for path in FILES:
+            write(path)
+        return 0
+    paths = [path for path in FILES if arguments and arguments[0] in path]
+    if len(arguments) != 1 or len(paths) != 1:
+        print(__doc__, *(paths or FILES), sep='\n', file=sys.stderr)
         return 2
+    sys.stdout.buffer.write(contents(paths[0]))
     return 0
 
 

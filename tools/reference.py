@@ -28,6 +28,14 @@ def refuse(number, test):
         raise Refused(number)
 
 
+def outcome(call, *arguments):
+    """The call's answer, or 'refused N'."""
+    try:
+        return call(*arguments)
+    except Refused as refusal:
+        return f'refused {refusal.number}'
+
+
 # ---- The field -------------------------------------------------------------------------
 
 @functools.lru_cache(None)
@@ -283,14 +291,6 @@ def text_job(text):
 
 
 # ---- Self test -------------------------------------------------------------------------------
-
-def outcome(call, *arguments):
-    """The call's answer, or 'refused N'."""
-    try:
-        return call(*arguments)
-    except Refused as refusal:
-        return f'refused {refusal.number}'
-
 
 def flat(n, s, rows):
     """A basis buffer from rows written as in document 01: '6 1, 6 2' is one row of two entries."""

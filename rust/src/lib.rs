@@ -77,18 +77,18 @@ pub fn invert(p: u32, a: u32) -> Result<u32, Refusal> {
 
 /// Writes the reduced minimal basis of the relations to order s between n series.
 ///
-/// `shift` is the type: n words. `series` has n s words, series by series. `basis` has n n (s + 1) words: row by row, entry by
+/// `d` is the type: n words. `series` has n s words, series by series. `basis` has n n (s + 1) words: row by row, entry by
 /// entry, s + 1 coefficients each, unused places zero. Refusals: 1, 2, 3, 4, 5, 6.
-pub fn basis(p: u32, n: u32, s: u32, shift: &[u32], series: &[u32], basis: &mut [u32]) -> Result<Found, Refusal> {
+pub fn basis(p: u32, n: u32, s: u32, d: &[u32], series: &[u32], basis: &mut [u32]) -> Result<Found, Refusal> {
     let mut answer = [0; 2];
-    answered(raw::basis(p, n, s, shift, series, basis, &mut answer)).map(|()| found(answer))
+    answered(raw::basis(p, n, s, d, series, basis, &mut answer)).map(|()| found(answer))
 }
 
 /// The same at the order of the type, s = (d_1 + 1) + .. + (d_n + 1) - 1. The least row is an approximant: its entry i has degree
 /// at most d_i. Refusals: 1, 2, 4 for the type, 5, 3 for that order, 4 for the rest, 6.
-pub fn approximant(p: u32, n: u32, shift: &[u32], series: &[u32], basis: &mut [u32]) -> Result<Found, Refusal> {
+pub fn approximant(p: u32, n: u32, d: &[u32], series: &[u32], basis: &mut [u32]) -> Result<Found, Refusal> {
     let mut answer = [0; 2];
-    answered(raw::approximant(p, n, shift, series, basis, &mut answer)).map(|()| found(answer))
+    answered(raw::approximant(p, n, d, series, basis, &mut answer)).map(|()| found(answer))
 }
 
 fn found(answer: [u32; 2]) -> Found {
@@ -111,27 +111,27 @@ pub fn row(basis: &[u32], n: u32, s: u32, i: u32) -> &[u32] {
     &basis[start..start + count]
 }
 
-/// Reads a job file. The first n words of `shift` and the first n s words of `series` are written, and no others.
+/// Reads a job file. The first n words of `d` and the first n s words of `series` are written, and no others.
 /// Refusals: 8; block by block 9, 10; 1, 2, 3, 11, 12, 5, 6.
-pub fn read_job(file: &[u8], shift: &mut [u32; TYPE_WORDS], series: &mut [u32; SERIES_WORDS]) -> Result<Job, Refusal> {
+pub fn read_job(file: &[u8], d: &mut [u32; TYPE_WORDS], series: &mut [u32; SERIES_WORDS]) -> Result<Job, Refusal> {
     let mut answer = [0; 3];
-    answered(raw::read(file, shift, series, &mut answer)).map(|()| Job { p: answer[0], n: answer[1], s: answer[2] })
+    answered(raw::read(file, d, series, &mut answer)).map(|()| Job { p: answer[0], n: answer[1], s: answer[2] })
 }
 
 /// Reads a text job: p, n, s, the n type entries, then n s coefficients and nothing more, separated by blanks and ends of line; `#` begins a
-/// comment that ends with its line. The first n words of `shift` and the first n s words of `series` are written, and no others.
-pub fn parse_job(text: &[u8], shift: &mut [u32; TYPE_WORDS], series: &mut [u32; SERIES_WORDS]) -> Result<Job, Misread> {
+/// comment that ends with its line. The first n words of `d` and the first n s words of `series` are written, and no others.
+pub fn parse_job(text: &[u8], d: &mut [u32; TYPE_WORDS], series: &mut [u32; SERIES_WORDS]) -> Result<Job, Misread> {
     let mut answer = [0; 3];
-    match raw::parse(text, shift, series, &mut answer) {
+    match raw::parse(text, d, series, &mut answer) {
         0 => Ok(Job { p: answer[0], n: answer[1], s: answer[2] }),
         status => Err(Misread { line: raw::parse_line(text), cause: Cause::of(status) }),
     }
 }
 
 /// Writes a job file to the first bytes of `file` and answers that part. Refusals: 1, 2, 3, 4, 5, 6.
-pub fn write_job<'a>(p: u32, n: u32, s: u32, shift: &[u32], series: &[u32], file: &'a mut [u8; FILE_BYTES]) -> Result<&'a [u8], Refusal> {
+pub fn write_job<'a>(p: u32, n: u32, s: u32, d: &[u32], series: &[u32], file: &'a mut [u8; FILE_BYTES]) -> Result<&'a [u8], Refusal> {
     let mut answer = [0];
-    answered(raw::write(p, n, s, shift, series, file, &mut answer))?;
+    answered(raw::write(p, n, s, d, series, file, &mut answer))?;
     Ok(&file[..512 * answer[0] as usize])
 }
 
@@ -141,13 +141,13 @@ pub fn basis_text<'a>(
     p: u32,
     n: u32,
     s: u32,
-    shift: &[u32],
+    d: &[u32],
     basis: &[u32],
     least: u32,
     text: &'a mut [u8; TEXT_BYTES],
 ) -> Result<&'a str, Refusal> {
     let mut answer = [0];
-    answered(raw::text(p, n, s, shift, basis, least, text, &mut answer))?;
+    answered(raw::text(p, n, s, d, basis, least, text, &mut answer))?;
     Ok(written(text, answer[0]))
 }
 

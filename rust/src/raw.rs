@@ -11,8 +11,8 @@ mod c {
             p: u32,
             n: u32,
             s: u32,
-            shift: *const u32,
-            shift_len: usize,
+            d: *const u32,
+            d_len: usize,
             series: *const u32,
             series_len: usize,
             basis: *mut u32,
@@ -23,8 +23,8 @@ mod c {
         pub fn relations_approximant(
             p: u32,
             n: u32,
-            shift: *const u32,
-            shift_len: usize,
+            d: *const u32,
+            d_len: usize,
             series: *const u32,
             series_len: usize,
             basis: *mut u32,
@@ -37,8 +37,8 @@ mod c {
         pub fn relations_read(
             file: *const u8,
             file_len: usize,
-            shift: *mut u32,
-            shift_len: usize,
+            d: *mut u32,
+            d_len: usize,
             series: *mut u32,
             series_len: usize,
             answer: *mut u32,
@@ -48,8 +48,8 @@ mod c {
             p: u32,
             n: u32,
             s: u32,
-            shift: *const u32,
-            shift_len: usize,
+            d: *const u32,
+            d_len: usize,
             series: *const u32,
             series_len: usize,
             file: *mut u8,
@@ -61,8 +61,8 @@ mod c {
             p: u32,
             n: u32,
             s: u32,
-            shift: *const u32,
-            shift_len: usize,
+            d: *const u32,
+            d_len: usize,
             basis: *const u32,
             basis_len: usize,
             least: u32,
@@ -82,7 +82,7 @@ mod c {
         pub fn relations_parse(
             text: *const u8,
             text_len: usize,
-            shift: *mut [u32; 8],
+            d: *mut [u32; 8],
             series: *mut [u32; 2040],
             answer: *mut u32,
             answer_len: usize,
@@ -108,14 +108,14 @@ pub fn invert(p: u32, a: u32, answer: &mut [u32]) -> u32 {
     unsafe { c::relations_invert(p, a, answer.as_mut_ptr(), answer.len()) }
 }
 
-pub fn basis(p: u32, n: u32, s: u32, shift: &[u32], series: &[u32], basis: &mut [u32], answer: &mut [u32]) -> u32 {
+pub fn basis(p: u32, n: u32, s: u32, d: &[u32], series: &[u32], basis: &mut [u32], answer: &mut [u32]) -> u32 {
     unsafe {
         c::relations_basis(
             p,
             n,
             s,
-            shift.as_ptr(),
-            shift.len(),
+            d.as_ptr(),
+            d.len(),
             series.as_ptr(),
             series.len(),
             basis.as_mut_ptr(),
@@ -126,13 +126,13 @@ pub fn basis(p: u32, n: u32, s: u32, shift: &[u32], series: &[u32], basis: &mut 
     }
 }
 
-pub fn approximant(p: u32, n: u32, shift: &[u32], series: &[u32], basis: &mut [u32], answer: &mut [u32]) -> u32 {
+pub fn approximant(p: u32, n: u32, d: &[u32], series: &[u32], basis: &mut [u32], answer: &mut [u32]) -> u32 {
     unsafe {
         c::relations_approximant(
             p,
             n,
-            shift.as_ptr(),
-            shift.len(),
+            d.as_ptr(),
+            d.len(),
             series.as_ptr(),
             series.len(),
             basis.as_mut_ptr(),
@@ -151,13 +151,13 @@ pub fn row(n: u32, s: u32, i: u32, basis: &[u32], answer: &mut [u32]) -> u32 {
     unsafe { c::relations_row(n, s, i, basis.as_ptr(), basis.len(), answer.as_mut_ptr(), answer.len()) }
 }
 
-pub fn read(file: &[u8], shift: &mut [u32], series: &mut [u32], answer: &mut [u32]) -> u32 {
+pub fn read(file: &[u8], d: &mut [u32], series: &mut [u32], answer: &mut [u32]) -> u32 {
     unsafe {
         c::relations_read(
             file.as_ptr(),
             file.len(),
-            shift.as_mut_ptr(),
-            shift.len(),
+            d.as_mut_ptr(),
+            d.len(),
             series.as_mut_ptr(),
             series.len(),
             answer.as_mut_ptr(),
@@ -166,14 +166,14 @@ pub fn read(file: &[u8], shift: &mut [u32], series: &mut [u32], answer: &mut [u3
     }
 }
 
-pub fn write(p: u32, n: u32, s: u32, shift: &[u32], series: &[u32], file: &mut [u8], answer: &mut [u32]) -> u32 {
+pub fn write(p: u32, n: u32, s: u32, d: &[u32], series: &[u32], file: &mut [u8], answer: &mut [u32]) -> u32 {
     unsafe {
         c::relations_write(
             p,
             n,
             s,
-            shift.as_ptr(),
-            shift.len(),
+            d.as_ptr(),
+            d.len(),
             series.as_ptr(),
             series.len(),
             file.as_mut_ptr(),
@@ -185,14 +185,14 @@ pub fn write(p: u32, n: u32, s: u32, shift: &[u32], series: &[u32], file: &mut [
 }
 
 #[allow(clippy::too_many_arguments)]
-pub fn text(p: u32, n: u32, s: u32, shift: &[u32], basis: &[u32], least: u32, text: &mut [u8], answer: &mut [u32]) -> u32 {
+pub fn text(p: u32, n: u32, s: u32, d: &[u32], basis: &[u32], least: u32, text: &mut [u8], answer: &mut [u32]) -> u32 {
     unsafe {
         c::relations_text(
             p,
             n,
             s,
-            shift.as_ptr(),
-            shift.len(),
+            d.as_ptr(),
+            d.len(),
             basis.as_ptr(),
             basis.len(),
             least,
@@ -208,8 +208,8 @@ pub fn refused(number: u32, text: &mut [u8], answer: &mut [u32]) -> u32 {
     unsafe { c::relations_refused(number, text.as_mut_ptr(), text.len(), answer.as_mut_ptr(), answer.len()) }
 }
 
-pub fn parse(text: &[u8], shift: &mut [u32; 8], series: &mut [u32; 2040], answer: &mut [u32]) -> u32 {
-    unsafe { c::relations_parse(text.as_ptr(), text.len(), shift, series, answer.as_mut_ptr(), answer.len()) }
+pub fn parse(text: &[u8], d: &mut [u32; 8], series: &mut [u32; 2040], answer: &mut [u32]) -> u32 {
+    unsafe { c::relations_parse(text.as_ptr(), text.len(), d, series, answer.as_mut_ptr(), answer.len()) }
 }
 
 pub fn parse_line(text: &[u8]) -> usize {
