@@ -159,11 +159,6 @@ block-injective n m ps qs hn hm hp hq lp lq e =
       sym (back n ps hn hp lp) ∙ ap payloadOf e ∙ back m qs hm hq lq,
     )
 
--- a block depends on the first 125 words of its payload alone
-pub block-same : (n : ℕ) (ps qs : List ℕ) → ((i : ℕ) → i < 125 → getD ps i 0 ≡ getD qs i 0) → blockOf n ps ≡ blockOf n qs
-unfolding blockOf body
-block-same n ps qs h = rw (upTo-same 125 (λ i. getD ps i 0) (λ i. getD qs i 0) h)
-
 -- a sound block is the block of its number and payload
 pub block-is : (l ps : List ℕ) → Bytes l → length l ≡ 512 → Sound l → ((i : ℕ) → i < 125 → getD ps i 0 ≡ wordAt l (suc i))
     → l ≡ blockOf (numberOf l) ps

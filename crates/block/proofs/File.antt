@@ -14,10 +14,11 @@ use Rattle.block.specs.Block.{upTo, blockOf}
 use Rattle.block.specs.Read.{numberOf, Sound}
 use Rattle.block.specs.File.{blocksOf, blocksFor, fileOf}
 use Rattle.block.specs.Part.{blockAt, payloadAt}
+use Rattle.block.specs.Lent.{over}
 use Rattle.block.proofs.Table.{length-upTo, getD-upTo}
 use Rattle.block.proofs.Words.{word-take, word-drop}
 use Rattle.words.proofs.Within.{within-take, within-drop}
-use Rattle.block.proofs.Block.{words-payload, length-block, block-word, number-block, sound-block, block-same, block-is}
+use Rattle.block.proofs.Block.{words-payload, length-block, block-word, number-block, sound-block, block-is}
 
 pub length-blocks : (b m : ℕ) (ws : List ℕ) → length (blocksOf b m ws) ≡ 512 * m
 unfolding blocksOf
@@ -34,17 +35,19 @@ pub blocks-least : (n m : ℕ) → n ≤ 125 * m → blocksFor n ≤ m
 unfolding blocksFor
 blocks-least n m h = omega arith
 
+-- the last of them is not empty, and they are no more than the words
+pub blocks-close : (n : ℕ) → (125 * blocksFor n ≤ n + 125) × (blocksFor n ≤ n)
+unfolding blocksFor
+blocks-close n = (omega arith, omega arith)
+
 pub length-file : (ws : List ℕ) → length (fileOf ws) ≡ 512 * blocksFor (length ws)
 unfolding fileOf
 length-file ws = length-blocks 0 (blocksFor (length ws)) ws
 
--- count blocks depend on the first 125 words for each alone
-pub blocks-same : (b m : ℕ) (ws vs : List ℕ) → ((k : ℕ) → k < 125 * m → getD ws k 0 ≡ getD vs k 0) → blocksOf b m ws ≡ blocksOf b m vs
-unfolding blocksOf
-blocks-same b zero ws vs h = refl
-blocks-same b (suc m) ws vs h =
-    let next = blocks-same (suc b) m (drop 125 ws) (drop 125 vs) (λ k l. simp getD-drop (h (125 + k) (omega arith))) in
-    cc (next, block-same b ws vs (λ i l. h i (omega arith)))
+-- the blocks of words, written over the first of the lent bytes, are their file
+pub file-over : (ws lent x : List ℕ) (m : ℕ) → m ≡ blocksFor (length ws) → x ≡ blocksOf 0 m ws → x ++ drop (512 * m) lent ≡ over (fileOf ws) lent
+unfolding fileOf
+file-over ws lent x m e h = rw (length-blocks 0 (blocksFor (length ws)) ws, ← e) (ap (λ (l : List ℕ). l ++ drop (512 * m) lent) h)
 
 -- n parts of c further on, after one
 drop-next : (c n : ℕ) (l : List ℕ) → drop (c * n) (drop c l) ≡ drop (c * suc n) l

@@ -6,3 +6,7 @@ pub mod Store
 pub mod Block
 pub mod File
 pub mod Fault
+pub mod Payload
+pub mod Over
+pub mod Length
+pub mod Whole

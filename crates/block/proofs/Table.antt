@@ -1,7 +1,8 @@
--- The list of a function's first values: its length, its elements, and that a list is the table of its own elements.
+-- The list of a function's first values: its length, its elements, a list as the table of its own elements, and a table that is two in a row.
 use mathlib.Core.Path.{_≡_, refl, ap}
-use mathlib.Core.List.{List, [], _∷_}
-use Prim.Native.Nat.{ℕ, zero, suc, _<_}
+use mathlib.Core.List.{List, [], _∷_, _++_}
+use Prim.Native.Nat.{ℕ, zero, suc, _+_, _<_}
+use native.Mathlib.Nat.{zero-add, suc-add}
 use native.Mathlib.Omega.{arith}
 use lib.ListN.{length, getD}
 use Rattle.block.specs.Block.{upTo}
@@ -28,3 +29,8 @@ pub upTo-getD : (l : List ℕ) → upTo (length l) (λ i. getD l i 0) ≡ l
 unfolding upTo
 upTo-getD [] = refl
 upTo-getD (x ∷ l) = ap (λ (r : List ℕ). x ∷ r) (upTo-getD l)
+
+pub upTo-append : (a b : ℕ) (w : ℕ → ℕ) → upTo (a + b) w ≡ upTo a w ++ upTo b (λ i. w (a + i))
+unfolding upTo
+upTo-append zero b w = simp zero-add
+upTo-append (suc a) b w = simp suc-add (ap (λ (r : List ℕ). w 0 ∷ r) (upTo-append a b (λ i. w (suc i))))

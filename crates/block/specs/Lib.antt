@@ -8,4 +8,7 @@ pub mod Block
 pub mod Read
 pub mod File
 pub mod Part
+pub mod Lent
+pub mod Length
 pub mod Fault
+pub mod Count

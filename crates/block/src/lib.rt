@@ -1,8 +1,8 @@
 // One block of 512 bytes: its number, 125 words of payload, and the checks A and B (document 01, "Job file"). Words are 32 bits,
 // their bytes the lowest first.
 //
-// These calls serve the file readers and writers, which lend them parts of the right length: each asks for that length and is listed
-// in docs/premises-block.md.
+// These calls serve the readers and writers of files of blocks, which lend them parts of the right length: each asks for that length
+// and is listed in docs/PREMISES.md.
 ghost use mathlib.Core.Path.{_≡_};
 ghost use mathlib.Core.Bool.{true};
 ghost use mathlib.Core.Logic.{_↔_};
@@ -14,10 +14,15 @@ ghost use Rattle.block.specs.Checks.{checksOf};
 ghost use Rattle.block.specs.Block.{blockOf};
 ghost use Rattle.block.specs.Read.{numberOf, Sound};
 ghost use Rattle.block.specs.Seal.{sealed};
-ghost use Rattle.block.specs.File.{blocksOf};
-ghost use Rattle.block.specs.Part.{payloadAt};
+ghost use Rattle.block.specs.File.{blocksOf, blocksFor, fileOf};
+ghost use Rattle.block.specs.Part.{blocksIn, payloadAt, payloadPart};
+ghost use Rattle.block.specs.Lent.{over};
+ghost use Rattle.block.specs.Length.{BadLength};
 ghost use Rattle.block.specs.Fault.{faults};
-ghost use Rattle.field.specs.Refusal.{FirstOrNone};
+ghost use Rattle.block.specs.Count.{countTests};
+ghost use Rattle.field.specs.Calls.{Tests};
+ghost use Rattle.words.specs.Some.{Some};
+use field::Tested;
 
 // Check A and check B.
 pub struct Checks {
@@ -130,16 +135,16 @@ pub fn write_block(block: &mut [u8], number: u32, words: &[u32])
     seal(block);
 }
 
-// Word k of the payloads joined, of a file that is lent whole.
-pub fn payload_word(file: &[u8], k: usize) -> u32
-    requires { ⌜ 512 * (k / 125) + 512 ≤ length (now file) ⌝ }
-    ensures { λ r. ⌜ r ≡ payloadAt (now (file .entry)) k ⌝ }
+// How many blocks count words take.
+fn blocks_for(count: usize) -> usize
+    requires { ⌜ count ≤ 4294967295 ⌝ }
+    ensures { λ r. ⌜ r ≡ blocksFor count ⌝ }
 {
-    word_at(file, 128 * (k / 125) + 1 + k % 125)
+    (count + 124) / 125
 }
 
 // Writes count blocks numbered from first, with 125 of the words in each, zero past their end.
-pub fn write_blocks(out: &mut [u8], first: u32, count: usize, words: &[u32])
+fn write_blocks(out: &mut [u8], first: u32, count: usize, words: &[u32])
     requires { ⌜ length (now out) ≡ 512 * count ⌝ }
     requires { ⌜ first + count ≤ 4294967296 ⌝ }
     requires { ⌜ 125 * count ≤ length (now words) + 125 ⌝ }
@@ -154,11 +159,71 @@ pub fn write_blocks(out: &mut [u8], first: u32, count: usize, words: &[u32])
     }
 }
 
-// The number of the first fault in count blocks, which should be numbered from first: 9 or 10, and 0 where there is none.
-pub fn first_fault(file: &[u8], first: u32, count: usize) -> u32
+// Writes the file of the words to the first bytes of out, and answers its number of blocks.
+pub fn write_file(words: &[u32], out: &mut [u8]) -> u32
+    requires { ⌜ length (now words) ≤ 4294967295 ⌝ }
+    requires { ⌜ 512 * blocksFor (length (now words)) ≤ length (now out) ⌝ }
+    ensures { λ r. ⌜ (r ≡ blocksFor (length (now (words .entry)))) × (now (out .exit) ≡ over (fileOf (now (words .entry))) (now (out .entry))) ⌝ }
+{
+    let blocks = blocks_for(words.len());
+    let end = 512 * blocks;
+    write_blocks(&mut out[..end], 0, blocks, words);
+    blocks as u32
+}
+
+// Word k of the payloads joined, of a file that is lent whole.
+pub fn payload_word(file: &[u8], k: usize) -> u32
+    requires { ⌜ 512 * (k / 125) + 512 ≤ length (now file) ⌝ }
+    ensures { λ r. ⌜ r ≡ payloadAt (now (file .entry)) k ⌝ }
+{
+    word_at(file, 128 * (k / 125) + 1 + k % 125)
+}
+
+// Fills out with words of a file's payload, from word `from` on.
+pub fn read_payload(file: &[u8], from: usize, out: &mut [u32])
+    requires { ⌜ from + length (now out) ≤ 125 * blocksIn (now file) ⌝ }
+    ensures { λ _. ⌜ now (out .exit) ≡ payloadPart (now (file .entry)) from (length (now (out .entry))) ⌝ }
+{
+    let mut i = 0;
+    while i < out.len() {
+        out[i] = payload_word(file, from + i);
+        i += 1;
+    }
+}
+
+// Whether some of count words of a file's payload, from word `from` on, is at least the bound.
+pub fn any_payload_from(file: &[u8], from: usize, count: usize, bound: u32) -> bool
+    requires { ⌜ from + count ≤ 125 * blocksIn (now file) ⌝ }
+    ensures { λ r. ⌜ (r ≡ true) ↔ Some (λ x. bound ≤ x) (payloadPart (now (file .entry)) from count) ⌝ }
+{
+    let mut i = 0;
+    while i < count {
+        if payload_word(file, from + i) >= bound {
+            return true;
+        }
+        i += 1;
+    }
+    false
+}
+
+// Whether no file of at most `largest` bytes has this length.
+pub fn is_bad_length(file: usize, largest: usize) -> bool
+    ensures { λ r. ⌜ (r ≡ true) ↔ BadLength largest file ⌝ }
+{
+    if file == 0 {
+        return true;
+    }
+    if file % 512 != 0 {
+        return true;
+    }
+    file > largest
+}
+
+// Tests count blocks in turn, which should be numbered from first.
+pub fn test_blocks(file: &[u8], first: u32, count: usize) -> Tested
     requires { ⌜ length (now file) ≡ 512 * count ⌝ }
     requires { ⌜ first + count ≤ 4294967296 ⌝ }
-    ensures { λ r. ⌜ FirstOrNone (faults first count (now (file .entry))) r ⌝ }
+    ensures { λ r. ⌜ Tests (faults first count (now (file .entry))) r ⌝ }
 {
     let mut b = 0;
     while b < count {
@@ -166,12 +231,27 @@ pub fn first_fault(file: &[u8], first: u32, count: usize) -> u32
         let end = at + 512;
         let block = &file[at..end];
         if !is_numbered(block, first + b as u32) {
-            return 9;
+            return Tested::Refused(9);
         }
         if !is_sound(block) {
-            return 10;
+            return Tested::Refused(10);
         }
         b += 1;
     }
-    0
+    Tested::Passed
+}
+
+// Tests a file that should hold count words. The spare words are looked at only once their blocks are known to be there.
+pub fn test_count(file: &[u8], count: usize) -> Tested
+    requires { ⌜ count ≤ 4294967295 ⌝ }
+    ensures { λ r. ⌜ Tests (countTests (now (file .entry)) count) r ⌝ }
+{
+    let blocks = file.len() / 512;
+    if blocks != blocks_for(count) {
+        return Tested::Refused(11);
+    }
+    if any_payload_from(file, count, 125 * blocks - count, 1) {
+        return Tested::Refused(12);
+    }
+    Tested::Passed
 }

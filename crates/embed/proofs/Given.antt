@@ -7,7 +7,7 @@ use lib.ListN.{length}
 use Rattle.field.specs.Refusal.{Outcome, First, NoTest}
 use Rattle.field.specs.Answer.{Answer}
 use Rattle.embed.specs.Status.{statusOf, wordsLeft}
-use Rattle.embed.specs.Given.{Told, ToldIn, Given}
+use Rattle.embed.specs.Given.{Told, Given}
 
 module _ (size : ℕ) (Wrapped : Answer → Type 0) (Kept : Type 0) (lent : List ℕ) where
   pub other-length : length lent ≢ size → Kept → Given size Wrapped Kept lent 4 lent

@@ -3,5 +3,6 @@ pub mod Words
 pub mod Given
 pub mod RowAt
 pub mod Text
-pub mod Unique
 pub mod Parsing
+pub mod Unique
+pub mod Determined

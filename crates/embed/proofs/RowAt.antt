@@ -3,37 +3,24 @@ use mathlib.Core.Path.{_≡_, refl, ap, _∙_}
 use mathlib.Core.List.{List, [], _∷_}
 use Prim.Native.Nat.{ℕ, _+_, _*_, _-_, _≤_}
 use native.Mathlib.Nat.{mul-zero, mul-le-mul}
-use native.Mathlib.Decide.{ℕ-discrete, decLe}
+use native.Mathlib.Decide.{ℕ-discrete}
 use native.Mathlib.Omega.{arith}
 use lib.ListN.{length}
 use Rattle.field.specs.Answer.{result}
 use Rattle.words.specs.Part.{part}
 use Rattle.words.proofs.Part.{part-fits, part-length}
 use Rattle.words.proofs.Sizes.{row-small}
-use Rattle.engine.specs.Words.{basisLength}
 use Rattle.engine.specs.RowView.{ViewFits, RowViewed}
+use Rattle.engine.proofs.View.{fits-decided}
 use Rattle.embed.specs.RowAt.{RowSaid}
-
--- each of the sizes is decided
-module _ {words n s i : ℕ} (nn : ¬ (¬ (ViewFits words n s i))) where
-  held : {A : Type 0} → Dec A → (ViewFits words n s i → A) → A
-  held (yes a) get = a
-  held (no g) get = absurd (nn (λ f. g (get f)))
-
-  pub fits-held : ViewFits words n s i
-  fits-held = record {
-    n-from = held (decLe 1 n) (λ f. f .n-from);
-    n-to = held (decLe n 8) (λ f. f .n-to);
-    s-to = held (decLe s 255) (λ f. f .s-to);
-    i-from = held (decLe 1 i) (λ f. f .i-from);
-    i-to = held (decLe i n) (λ f. f .i-to);
-    full = held (ℕ-discrete words (basisLength n s)) (λ f. f .full);
-  }
 
 module _ {basis : List ℕ} {n s i : ℕ} {view : List ℕ} (v : RowViewed basis n s i view) where
   -- a view that is not empty is a row
   pub view-fits : ¬ (length view ≡ 0) → ViewFits (length basis) n s i
-  view-fits some = fits-held λ misfit. some (ap length (v .misfits misfit))
+  view-fits some = elim (fits-decided (length basis) n s i) [
+    | yes f ↦ f
+    | no g ↦ absurd (some (ap length (v .misfits g)))
+  ]
 
   pub view-count : ViewFits (length basis) n s i → length view ≡ n * (s + 1)
   view-count f =

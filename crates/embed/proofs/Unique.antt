@@ -1,19 +1,15 @@
--- For each exported call, two outcomes that meet its contract for the same arguments are equal: status, answer words and buffers.
-use mathlib.Core.Path.{_≡_, ap, sym, _∙_}
+-- For each wrapped call, two outcomes for the same arguments say the same, and the same of its buffers.
+use mathlib.Core.Path.{_≡_, refl, ap, sym, _∙_}
 use mathlib.Core.Logic.{inl, inr}
 use mathlib.Core.List.{List}
 use Prim.Native.Nat.{ℕ, _+_, _%_}
-use native.Mathlib.Nat.{mul-pos}
-use native.Mathlib.Decide.{ℕ-discrete}
-use native.Mathlib.Omega.{arith}
 use lib.ListN.{length}
-use Rattle.field.specs.Refusal.{Outcome}
+use Rattle.field.specs.Refusal.{Order, Outcome}
 use Rattle.field.specs.Answer.{Answer}
 use Rattle.field.specs.declared.FieldAnswer.{FieldAnswer}
 use Rattle.field.specs.declared.ResidueAnswer.{ResidueAnswer}
 use Rattle.field.specs.declared.InverseAnswer.{InverseAnswer}
 use Rattle.field.specs.Calls.{fieldSays, residueSays, inverseSays, MakeOutcome, ResidueOutcome, InvertOutcome}
-use Rattle.field.proofs.Refusal.{same-outcome}
 use Rattle.field.proofs.Unique.{make-unique, residue-unique, invert-unique}
 use Rattle.engine.specs.declared.BasisAnswer.{BasisAnswer}
 use Rattle.engine.specs.declared.PairAnswer.{PairAnswer}
@@ -21,49 +17,41 @@ use Rattle.engine.specs.Answers.{basisSays, pairSays}
 use Rattle.engine.specs.Basis.{BasisOutcome}
 use Rattle.engine.specs.Approximant.{ApproximantOutcome}
 use Rattle.engine.specs.Pair.{PairOutcome}
-use Rattle.engine.specs.RowView.{ViewFits}
 use Rattle.engine.proofs.Unique.{basis-unique, approximant-unique, pair-unique}
+use Rattle.engine.proofs.View.{fits-decided}
 use Rattle.jobfile.specs.declared.JobAnswer.{JobAnswer}
 use Rattle.jobfile.specs.declared.WriteAnswer.{WriteAnswer}
 use Rattle.jobfile.specs.Answers.{jobSays, writeSays}
 use Rattle.jobfile.specs.Outcomes.{ReadOutcome, WriteOutcome}
 use Rattle.jobfile.proofs.Theorems.{read-unique, write-unique}
-use Rattle.report.specs.Calls.{BasisOutcome as BasisTextOutcome, RefusalOutcome as RefusalTextOutcome}
-use Rattle.report.proofs.Calls.{basis-unique as text-unique, refusal-unique as refusal-text-unique}
+use Rattle.report.specs.declared.TextAnswer.{TextAnswer}
+use Rattle.report.specs.Calls.{textSays, TextOutcome, BasisTextOutcome, RefusalTextOutcome}
+use Rattle.report.specs.Text.{basisText, refusalText}
+use Rattle.report.proofs.Calls.{basis-text-unique, refusal-text-unique}
 use Rattle.jobreport.specs.Printed.{PrintOutcome}
 use Rattle.jobreport.proofs.Unique.{print-unique}
-use Rattle.embed.specs.Status.{statusOf, wordsLeft}
-use Rattle.embed.specs.Given.{Told, Given, answerOrder}
+use Rattle.jobtext.specs.Job.{jobOfText}
+use Rattle.jobtext.proofs.Reading.{parse-unique}
 use Rattle.embed.specs.RowAt.{RowSaid}
-use Rattle.embed.proofs.RowAt.{fits-held}
+use Rattle.embed.specs.Parsing.{parsedSays, ParseOutcome}
 
--- two outcomes of one wrapped call say the same, and the same of the buffers
-abbrev pub One : (Answer → Type 0) → (Answer → Type 0) → Type 0 → Type 0
-One W W′ Same = (said said′ : Answer) → W said → W′ said′ → (said ≡ said′) × Same
+-- outcomes of one call, each with what it leaves in the buffers that are not its answer's
+abbrev pub One : {B : Type 0} → (B → Answer → Type 0) → Type 0
+One {B} W = (b b′ : B) (said said′ : Answer) → W b said → W b′ said′ → (said ≡ said′) × (b ≡ b′)
 
-pub told-unique : (W W′ : Answer → Type 0) (Same : Type 0) (status status′ : ℕ) → One W W′ Same → Told W status → Told W′ status′ → (status ≡ status′) × Same
-told-unique W W′ Same status status′ one t t′ =
-    let q = one (t .said) (t′ .said) (t .outcome) (t′ .outcome) in
-    (t .status-word ∙ ap statusOf (q .0) ∙ sym (t′ .status-word), q .1)
-
-pub given-unique : (size : ℕ) (W W′ : Answer → Type 0) (K K′ Same : Type 0) (lent : List ℕ) (status status′ : ℕ) (left left′ : List ℕ)
-    → One W W′ Same → (K → K′ → Same) → Given size W K lent status left → Given size W′ K′ lent status′ left′ → (status ≡ status′) × (left ≡ left′) × Same
-unfolding Given
-given-unique size W W′ K K′ Same lent status status′ left left′ one kept h h′ = elim (same-outcome (answerOrder size lent) _ _ _ _ h h′) [
-  | inl w ↦ let q = one (w .0 .said) (w .1 .said) (w .0 .outcome) (w .1 .outcome) in
-      (w .0 .status-word ∙ ap statusOf (q .0) ∙ sym (w .1 .status-word), w .0 .answer-words ∙ ap (λ (a : Answer). wordsLeft a lent) (q .0) ∙ sym (w .1 .answer-words), q .1)
-  | inr w ↦ (w .1 .0 ∙ sym (w .2 .0), w .1 .1 ∙ sym (w .2 .1), kept (w .1 .2) (w .2 .2))
-]
+-- a call without such buffers
+abbrev pub NoBuffers : Type 0
+NoBuffers = Unit
 
 -- from the uniqueness of a call that answers an R, whose outcome says what some R does
-by-answers : {R : Type 0} (says : R → Answer) (W W′ : Answer → Type 0) (Same : Type 0)
-    → ((said : Answer) → W said → (r : R) × (says r ≡ said)) → ((said : Answer) → W′ said → (r : R) × (says r ≡ said))
-    → ((r r′ : R) → W (says r) → W′ (says r′) → (r ≡ r′) × Same) → One W W′ Same
-by-answers says W W′ Same some some′ unique said said′ h h′ =
-    let a = some said h in
-    let b = some′ said′ h′ in
-    let q = unique (a .0) (b .0) (rw (a .1) h) (rw (b .1) h′) in
-    (sym (a .1) ∙ ap says (q .0) ∙ b .1, q .1)
+by-answers : {R B : Type 0} (says : R → Answer) (W : B → Answer → Type 0)
+    → ((b : B) (said : Answer) → W b said → (r : R) × (says r ≡ said))
+    → ((r r′ : R) (b b′ : B) → W b (says r) → W b′ (says r′) → (r ≡ r′) × (b ≡ b′)) → One W
+by-answers says W some unique b b′ said said′ h h′ =
+    let a = some b said h in
+    let a′ = some b′ said′ h′ in
+    let q = unique (a .0) (a′ .0) b b′ (rw (a .1) h) (rw (a′ .1) h′) in
+    (sym (a .1) ∙ ap says (q .0) ∙ a′ .1, q .1)
 
 make-said : (p : ℕ) (said : Answer) → MakeOutcome p said → (r : FieldAnswer) × (fieldSays r ≡ said)
 unfolding MakeOutcome Outcome
@@ -83,12 +71,12 @@ inverse-said p a said (inr h) = (InverseAnswer.Refused (h .0), sym (h .2))
 
 basis-said : (p n s : ℕ) (d F lent left : List ℕ) (said : Answer) → BasisOutcome p n s d F lent said left → (r : BasisAnswer) × (basisSays r ≡ said)
 unfolding BasisOutcome Outcome
-basis-said p n s d F lent left said (inl a) = (BasisAnswer.Found (a .1 .least + 1) (a .1 .count), sym (a .1 .says))
+basis-said p n s d F lent left said (inl a) = (BasisAnswer.Found (record { least = a .1 .least + 1; count = a .1 .count }), sym (a .1 .says))
 basis-said p n s d F lent left said (inr b) = (BasisAnswer.Refused (b .0), sym (b .2 .0))
 
 approximant-said : (p n : ℕ) (d F lent left : List ℕ) (said : Answer) → ApproximantOutcome p n d F lent said left → (r : BasisAnswer) × (basisSays r ≡ said)
 unfolding ApproximantOutcome Outcome
-approximant-said p n d F lent left said (inl a) = (BasisAnswer.Found (a .1 .answered .least + 1) (a .1 .answered .count), sym (a .1 .answered .says))
+approximant-said p n d F lent left said (inl a) = (BasisAnswer.Found (record { least = a .1 .answered .least + 1; count = a .1 .answered .count }), sym (a .1 .answered .says))
 approximant-said p n d F lent left said (inr b) = (BasisAnswer.Refused (b .0), sym (b .2 .0))
 
 pair-said : (p k : ℕ) (g r t r₁ t₁ : List ℕ) (said : Answer) → PairOutcome p k g r t said r₁ t₁ → (a : PairAnswer) × (pairSays a ≡ said)
@@ -98,7 +86,7 @@ pair-said p k g r t r₁ t₁ said (inr b) = (PairAnswer.Refused (b .0), sym (b 
 
 read-said : (file d F left-d left-F : List ℕ) (said : Answer) → ReadOutcome file d F said left-d left-F → (r : JobAnswer) × (jobSays r ≡ said)
 unfolding ReadOutcome Outcome
-read-said file d F left-d left-F said (inl a) = (JobAnswer.Job (a .1 .job .p) (a .1 .job .n) (a .1 .job .s), sym (a .1 .says))
+read-said file d F left-d left-F said (inl a) = (JobAnswer.Job (record { p = a .1 .job .p; n = a .1 .job .n; s = a .1 .job .s }), sym (a .1 .says))
 read-said file d F left-d left-F said (inr b) = (JobAnswer.Refused (b .0), sym (b .2 .0))
 
 write-said : (p n s : ℕ) (d F lent left : List ℕ) (said : Answer) → WriteOutcome p n s d F lent said left → (r : WriteAnswer) × (writeSays r ≡ said)
@@ -106,60 +94,65 @@ unfolding WriteOutcome Outcome
 write-said p n s d F lent left said (inl a) = (WriteAnswer.Blocks _, sym (a .1 .says))
 write-said p n s d F lent left said (inr b) = (WriteAnswer.Refused (b .0), sym (b .2 .0))
 
-pub make-one : (p : ℕ) → One (MakeOutcome p) (MakeOutcome p) Unit
-make-one p = by-answers fieldSays _ _ _ (make-said p) (make-said p) (λ r r′ h h′. (make-unique p r r′ h h′, tt))
+-- a call with two such buffers
+two : {R : Type 0} {r r′ : R} {b b′ : List ℕ × List ℕ} → (r ≡ r′) × (b .0 ≡ b′ .0) × (b .1 ≡ b′ .1) → (r ≡ r′) × (b ≡ b′)
+two q = (q .0, λ i. (q .1 i, q .2 i))
 
-pub residue-one : (p a b n : ℕ) → One (ResidueOutcome p a b n) (ResidueOutcome p a b n) Unit
-residue-one p a b n = by-answers residueSays _ _ _ (residue-said p a b n) (residue-said p a b n) (λ r r′ h h′. (residue-unique p a b n r r′ h h′, tt))
+pub make-one : (p : ℕ) → One (λ (b : NoBuffers). MakeOutcome p)
+make-one p = by-answers fieldSays _ (λ b. make-said p) (λ r r′ b b′ h h′. (make-unique p r r′ h h′, refl))
 
-pub invert-one : (p a : ℕ) → One (InvertOutcome p a) (InvertOutcome p a) Unit
-invert-one p a = by-answers inverseSays _ _ _ (inverse-said p a) (inverse-said p a) (λ r r′ h h′. (invert-unique p a r r′ h h′, tt))
+pub residue-one : (p a b n : ℕ) → One (λ (u : NoBuffers). ResidueOutcome p a b n)
+residue-one p a b n = by-answers residueSays _ (λ u. residue-said p a b n) (λ r r′ u u′ h h′. (residue-unique p a b n r r′ h h′, refl))
 
-pub basis-one : (p n s : ℕ) (d F lent left left′ : List ℕ)
-    → One (λ said. BasisOutcome p n s d F lent said left) (λ said. BasisOutcome p n s d F lent said left′) (left ≡ left′)
-basis-one p n s d F lent left left′ =
-    by-answers basisSays _ _ _ (basis-said p n s d F lent left) (basis-said p n s d F lent left′) (λ r r′ h h′. basis-unique p n s d F lent r r′ left left′ h h′)
+pub invert-one : (p a : ℕ) → One (λ (b : NoBuffers). InvertOutcome p a)
+invert-one p a = by-answers inverseSays _ (λ b. inverse-said p a) (λ r r′ b b′ h h′. (invert-unique p a r r′ h h′, refl))
 
-pub approximant-one : (p n : ℕ) (d F lent left left′ : List ℕ)
-    → One (λ said. ApproximantOutcome p n d F lent said left) (λ said. ApproximantOutcome p n d F lent said left′) (left ≡ left′)
-approximant-one p n d F lent left left′ =
-    by-answers basisSays _ _ _ (approximant-said p n d F lent left) (approximant-said p n d F lent left′) (λ r r′ h h′. approximant-unique p n d F lent r r′ left left′ h h′)
+pub basis-one : (p n s : ℕ) (d F lent : List ℕ) → One (λ left said. BasisOutcome p n s d F lent said left)
+basis-one p n s d F lent = by-answers basisSays _ (basis-said p n s d F lent) (basis-unique p n s d F lent)
 
-pub pair-one : (p k : ℕ) (g r t r₁ t₁ r₂ t₂ : List ℕ)
-    → One (λ said. PairOutcome p k g r t said r₁ t₁) (λ said. PairOutcome p k g r t said r₂ t₂) ((r₁ ≡ r₂) × (t₁ ≡ t₂))
-pair-one p k g r t r₁ t₁ r₂ t₂ =
-    by-answers pairSays _ _ _ (pair-said p k g r t r₁ t₁) (pair-said p k g r t r₂ t₂) (λ a a′ h h′. let q = pair-unique p k g r t a a′ r₁ t₁ r₂ t₂ h h′ in (q .0, (q .1, q .2)))
+pub approximant-one : (p n : ℕ) (d F lent : List ℕ) → One (λ left said. ApproximantOutcome p n d F lent said left)
+approximant-one p n d F lent = by-answers basisSays _ (approximant-said p n d F lent) (approximant-unique p n d F lent)
 
-pub read-one : (file d F d₁ F₁ d₂ F₂ : List ℕ)
-    → One (λ said. ReadOutcome file d F said d₁ F₁) (λ said. ReadOutcome file d F said d₂ F₂) ((d₁ ≡ d₂) × (F₁ ≡ F₂))
-read-one file d F d₁ F₁ d₂ F₂ =
-    by-answers jobSays _ _ _ (read-said file d F d₁ F₁) (read-said file d F d₂ F₂) (λ r r′ h h′. let q = read-unique file d F r r′ d₁ F₁ d₂ F₂ h h′ in (q .0, (q .1, q .2)))
+pub pair-one : (p k : ℕ) (g r t : List ℕ) → One (λ (b : List ℕ × List ℕ) said. PairOutcome p k g r t said (b .0) (b .1))
+pair-one p k g r t =
+    by-answers pairSays _ (λ b. pair-said p k g r t (b .0) (b .1)) (λ a a′ b b′ h h′. two (pair-unique p k g r t a a′ (b .0) (b .1) (b′ .0) (b′ .1) h h′))
 
-pub write-one : (p n s : ℕ) (d F lent left left′ : List ℕ)
-    → One (λ said. WriteOutcome p n s d F lent said left) (λ said. WriteOutcome p n s d F lent said left′) (left ≡ left′)
-write-one p n s d F lent left left′ =
-    by-answers writeSays _ _ _ (write-said p n s d F lent left) (write-said p n s d F lent left′) (λ r r′ h h′. write-unique p n s d F lent r r′ left left′ h h′)
+pub read-one : (file d F : List ℕ) → One (λ (b : List ℕ × List ℕ) said. ReadOutcome file d F said (b .0) (b .1))
+read-one file d F =
+    by-answers jobSays _ (λ b. read-said file d F (b .0) (b .1)) (λ r r′ b b′ h h′. two (read-unique file d F r r′ (b .0) (b .1) (b′ .0) (b′ .1) h h′))
+
+pub write-one : (p n s : ℕ) (d F lent : List ℕ) → One (λ left said. WriteOutcome p n s d F lent said left)
+write-one p n s d F lent = by-answers writeSays _ (write-said p n s d F lent) (write-unique p n s d F lent)
+
+pub parse-one : (text d F : List ℕ) → One (λ (b : List ℕ × List ℕ). ParseOutcome text d F (b .0) (b .1))
+parse-one text d F b b′ said said′ h h′ =
+    let q = two (parse-unique (jobOfText text) (h .parsed) (h′ .parsed) d (b .0) (b′ .0) F (b .1) (b′ .1) (h .follows) (h′ .follows)) in
+    (h .says ∙ ap parsedSays (q .0) ∙ sym (h′ .says), q .1)
 
 -- where the sizes fit, start and length are the row's, and else both are 0
-pub row-one : (basis : List ℕ) (n s i : ℕ) → One (RowSaid basis n s i) (RowSaid basis n s i) Unit
-row-one basis n s i said said′ a b = elim (ℕ-discrete (a .count) 0) [
-  | yes e ↦
-      let misfit : ¬ (ViewFits (length basis) n s i) = λ f. omega (arith, e, a .row-at .fits f .1, mul-pos {m = n} {n = s + 1} (f .n-from) (omega arith)) in
-      (same (a .row-at .misfits misfit .0 ∙ sym (b .row-at .misfits misfit .0)) (a .row-at .misfits misfit .1 ∙ sym (b .row-at .misfits misfit .1)), tt)
-  | no some ↦
-      let f : ViewFits (length basis) n s i = fits-held (λ misfit. some (a .row-at .misfits misfit .1)) in
-      (same (a .row-at .fits f .0 ∙ sym (b .row-at .fits f .0)) (a .row-at .fits f .1 ∙ sym (b .row-at .fits f .1)), tt)
+pub row-one : (basis : List ℕ) (n s i : ℕ) → One (λ (b : NoBuffers). RowSaid basis n s i)
+row-one basis n s i b b′ said said′ h h′ = elim (fits-decided (length basis) n s i) [
+  | yes f ↦ (same (h .row-at .fits f .0 ∙ sym (h′ .row-at .fits f .0)) (h .row-at .fits f .1 ∙ sym (h′ .row-at .fits f .1)), refl)
+  | no g ↦ (same (h .row-at .misfits g .0 ∙ sym (h′ .row-at .misfits g .0)) (h .row-at .misfits g .1 ∙ sym (h′ .row-at .misfits g .1)), refl)
 ]
   where
-    same : a .start ≡ b .start → a .count ≡ b .count → said ≡ said′
-    same e e′ = a .says ∙ rw (e, e′) (sym (b .says))
+    same : h .start ≡ h′ .start → h .count ≡ h′ .count → said ≡ said′
+    same e e′ = h .says ∙ rw (e, e′) (sym (h′ .says))
 
-pub text-one : (p n s : ℕ) (d basis : List ℕ) (least : ℕ) (before after after′ : List ℕ)
-    → One (BasisTextOutcome p n s d basis least before after) (BasisTextOutcome p n s d basis least before after′) (after ≡ after′)
-text-one p n s d basis least before after after′ said said′ h h′ = text-unique p n s d basis least before after after′ said said′ h h′
+text-said : (o : Order) (text before after : List ℕ) (said : Answer) → TextOutcome o text before after said → (r : TextAnswer) × (textSays r ≡ said)
+unfolding Outcome
+text-said o text before after said (inl a) = (TextAnswer.Length (length text), sym (a .1 .0))
+text-said o text before after said (inr b) = (TextAnswer.Refused (b .0), sym (b .2 .0))
 
-pub refused-one : (k : ℕ) (before after after′ : List ℕ) → One (RefusalTextOutcome k before after) (RefusalTextOutcome k before after′) (after ≡ after′)
-refused-one k before after after′ said said′ h h′ = refusal-text-unique k before after after′ said said′ h h′
+pub text-one : (p n s : ℕ) (d basis : List ℕ) (least : ℕ) (before : List ℕ) → One (λ after. BasisTextOutcome p n s d basis least before after)
+unfolding BasisTextOutcome
+text-one p n s d basis least before =
+    by-answers textSays _ (text-said _ (basisText p n s d basis least) before) (basis-text-unique p n s d basis least before)
 
-pub print-one : (file before after after′ : List ℕ) → One (PrintOutcome file before after) (PrintOutcome file before after′) (after ≡ after′)
-print-one file before after after′ said said′ h h′ = print-unique file before after after′ said said′ h h′
+pub refused-one : (k : ℕ) (before : List ℕ) → One (λ after. RefusalTextOutcome k before after)
+unfolding RefusalTextOutcome
+refused-one k before = by-answers textSays _ (text-said _ (refusalText k) before) (refusal-text-unique k before)
+
+pub print-one : (file before : List ℕ) → One (λ after. PrintOutcome file before after)
+unfolding PrintOutcome
+print-one file before = by-answers textSays _ (λ after said h. text-said _ (h .0) before after said (h .2)) (print-unique file before)

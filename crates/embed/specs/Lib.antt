@@ -1,5 +1,6 @@
 -- What the contracts of `embed` cite.
 pub mod Status
+pub mod Lengths
 pub mod Given
 pub mod RowAt
 pub mod TextFits

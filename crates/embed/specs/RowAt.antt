@@ -1,7 +1,7 @@
 -- Where a row lies in a lent basis: the row view as the index of its first word and the number of its words.
 use mathlib.Core.Path.{_≡_}
 use mathlib.Core.List.{List, [], _∷_}
-use Prim.Native.Nat.{ℕ, _+_, _*_, _-_, _≤_}
+use Prim.Native.Nat.{ℕ, _+_, _*_, _-_}
 use lib.ListN.{length, take, drop}
 use Rattle.field.specs.Answer.{Answer, result}
 use Rattle.engine.specs.RowView.{ViewFits, RowViewed}

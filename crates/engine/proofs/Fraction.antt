@@ -6,8 +6,6 @@ use native.Mathlib.Nat.{mul-zero, mul-suc, mul-mod-left, mod-eq-of-lt}
 use native.Mathlib.Omega.{arith}
 use lib.ListN.{length}
 use Rattle.field.specs.Prime.{Prime}
-use Rattle.field.specs.Refusal.{NoTest}
-use Rattle.field.specs.Answer.{Answer}
 use Rattle.field.proofs.Residue.{cancel-mod}
 use Rattle.relation.specs.Sum.{sumTo}
 use Rattle.relation.specs.Product.{conv, dot}
@@ -15,11 +13,11 @@ use Rattle.relation.specs.Vector.{Vect}
 use Rattle.relation.specs.Pair.{pairSeries, Pair}
 use Rattle.relation.proofs.Sum.{sum-single}
 use Rattle.relation.proofs.Pair.{pair-nonzero}
-use Rattle.row.specs.View.{poly}
-use Rattle.engine.specs.Orders.{pairOrder}
+use Rattle.words.specs.Polynomial.{poly}
+use Rattle.engine.specs.declared.PairAnswer.{PairAnswer}
+use Rattle.engine.specs.Answers.{pairSays}
 use Rattle.engine.specs.Pair.{PairOutcome}
-use Rattle.engine.proofs.Admitted.{pair-sizes}
-use Rattle.field.proofs.Refusal.{answer}
+use Rattle.engine.proofs.Admitted.{admitted, pair-sizes}
 use Rattle.engine.proofs.Series.{minus-one-ends}
 
 -- a product with the series -1
@@ -47,11 +45,12 @@ module _ {p k N : ℕ} {g r t : ℕ → ℕ} (pr : Prime p) (x : Pair p k N g r 
       let m : (r j * (p - 1) + r j) % p ≡ 0 = rw (← mul-suc (r j) (p - 1), q) (mul-mod-left (r j) p) in
       cancel-mod p (r j * (p - 1)) (r j * (p - 1)) (conv t g j) (r j) (omega (arith, pr .above-one)) (z ∙ sym m) refl ∙ mod-eq-of-lt l
 
--- an admitted pair call writes a fraction
-pub pair-fraction : (p k : ℕ) (g r t : List ℕ) (said : Answer) (r′ t′ : List ℕ) → NoTest (pairOrder p k g (length r) (length t)) → PairOutcome p k g r t said r′ t′
+-- a pair call that is not refused writes a fraction
+pub pair-fraction : (p k : ℕ) (g r t r′ t′ : List ℕ) → PairOutcome p k g r t (pairSays PairAnswer.Written) r′ t′
     → ((j : ℕ) → j < length g → conv (poly t′) (poly g) j % p ≡ poly r′ j) × (¬ ((j : ℕ) → poly t′ j ≡ 0))
 unfolding PairOutcome
-pair-fraction p k g r t said r′ t′ n o =
-    let z = pair-sizes p k g (length r) (length t) n in
-    let w = answer _ _ _ o n .1 in
+pair-fraction p k g r t r′ t′ o =
+    let a = admitted _ _ _ _ (λ j refused. refused .0) o in
+    let z = pair-sizes p k g (length r) (length t) (a .0) in
+    let w = a .1 .1 in
     (fraction (z .modulus .prime) (w .pair), pair-nonzero (z .modulus .prime) (z .k-from) (z .k-to) (w .pair))

@@ -2,7 +2,7 @@
 --   retyped, releast     a basis is that of any type with the same entries
 --   entry-words          an entry of a row, read off the words of the basis
 --   pair-written         the pair
-use mathlib.Core.Path.{_≡_, refl, ap, sym, _∙_, subst}
+use mathlib.Core.Path.{_≡_, refl, sym, _∙_, subst}
 use mathlib.Core.List.{List, [], _∷_}
 use Prim.Native.Nat.{ℕ, zero, suc, _+_, _*_, _-_, _≤_, _<_}
 use native.Mathlib.Nat.{mul-le-mul-right}
@@ -10,23 +10,27 @@ use native.Mathlib.Decide.{decLt}
 use native.Mathlib.Omega.{arith}
 use lib.ListN.{length, getD, take, drop, length-drop}
 use lib.Seq.{length-take-le, getD-take, getD-drop}
-use lib.IntN.{ℤ, pos, _-ℤ_, +ℤ-negℤ-cancel}
+use lib.IntN.{ℤ}
 use Rattle.field.specs.Prime.{Prime}
 use Rattle.relation.specs.Vector.{Vect}
 use Rattle.relation.specs.MinimalBasis.{MinimalBasis}
 use Rattle.relation.specs.Approximant.{LeastRow, Approximant}
 use Rattle.relation.specs.Pair.{pairSeries, pairType, Pair}
+use Rattle.relation.proofs.Integer.{minus-pos}
 use Rattle.relation.proofs.Shift.{Offset}
 use Rattle.relation.proofs.Bridge.{minimal→basis, basis→minimal, basis→least, least→basis, pivots-exist}
 use Rattle.relation.proofs.Pair.{pair-order, pair-numerator, pair-denominator}
-use Rattle.row.specs.View.{poly, vector, row}
+use Rattle.words.specs.Polynomial.{poly}
+use Rattle.row.specs.View.{vector, row}
 use Rattle.words.specs.Part.{part}
 use Rattle.row.proofs.Part.{part-at, poly-past}
-use Rattle.step.specs.Shift.{shift, TypeWords}
-use Rattle.engine.specs.Words.{typeOf}
-use Rattle.engine.specs.Basis.{BasisFound}
+use Rattle.step.specs.Offset.{offsetOf, TypeWords}
+use Rattle.step.proofs.Order.{type-offset}
+use Rattle.words.specs.Some.{Some}
+use Rattle.sizes.specs.Entry.{EntryOutside, typeOf}
+use Rattle.sizes.proofs.Entry.{outside-above}
+use Rattle.solve.specs.Found.{BasisFound}
 use Rattle.engine.specs.Pair.{PairWritten}
-use Rattle.engine.proofs.Work.{shift-offset}
 
 module _ {n B : ℕ} {d d′ : ℕ → ℤ} {b : ℕ → ℕ} (o : Offset n d B b) (o′ : Offset n d′ B b) {p : ℕ} {F : Vect} {s : ℕ} {Q : ℕ → Vect} (mb : MinimalBasis p n F s d Q) where
   retyped : MinimalBasis p n F s d′ Q
@@ -49,23 +53,21 @@ entry-words n w i j m start xs e h f x g =
 abbrev pub pairWords : ℕ → ℕ → List ℕ
 pairWords k N = (k - 1) ∷ (N - k) ∷ []
 
-pub entries-small : (k N : ℕ) → k ≤ N → N ≤ 255 → (i : ℕ) → getD (pairWords k N) i 0 ≤ 255
+entries-small : (k N : ℕ) → k ≤ N → N ≤ 255 → (i : ℕ) → getD (pairWords k N) i 0 ≤ 255
 entries-small k N h g zero = omega arith
 entries-small k N h g (suc zero) = omega arith
 entries-small k N h g (suc (suc i)) = omega arith
 
-pub pair-type-words : (k N : ℕ) → k ≤ N → N ≤ 255 → TypeWords 2 (pairWords k N)
-pair-type-words k N h g = record { count = refl; small = λ i hi. entries-small k N h g i }
+pub entries-admitted : (k N : ℕ) → k ≤ N → N ≤ 255 → ¬ (Some EntryOutside (pairWords k N))
+entries-admitted k N h g some = omega (arith, outside-above _ (some .2), entries-small k N h g (some .0))
 
-difference : (a b : ℕ) → b ≤ a → pos (a - b) ≡ pos a -ℤ pos b
-difference a b h =
-    let q : a - b + b ≡ a = omega arith in
-    sym (+ℤ-negℤ-cancel (pos (a - b)) (pos b)) ∙ ap (λ (z : ℤ). z -ℤ pos b) (ap pos q)
+pair-type-words : (k N : ℕ) → k ≤ N → N ≤ 255 → TypeWords 2 (pairWords k N)
+pair-type-words k N h g = record { count = refl; inside = λ i hi o. omega (arith, outside-above (getD (pairWords k N) i 0) o, entries-small k N h g i) }
 
 type-agrees : (k N : ℕ) → 1 ≤ k → k ≤ N → (i : ℕ) → i < 2 → pairType k N i ≡ typeOf (pairWords k N) i
 unfolding pairType
-type-agrees k N h g zero l = sym (difference k 1 h)
-type-agrees k N h g (suc zero) l = sym (difference N k g)
+type-agrees k N h g zero l = minus-pos k 1 h
+type-agrees k N h g (suc zero) l = minus-pos N k g
 type-agrees k N h g (suc (suc i)) l = absurd (omega arith)
 
 -- row i of two begins below the second row's end
@@ -80,8 +82,8 @@ pair-written {p} {k} {g} {F} {xs} {i} {c} pr hk kN N-to is f =
     let w = N + 1 in
     let start = i * (2 * w) in
     let small : i * (2 * w) ≤ 2 * w = row-start i w (f .least-row .row) in
-    let o = shift-offset (pair-type-words k N kN N-to) in
-    let o′ : Offset 2 (pairType k N) 255 (shift (pairWords k N)) = record { at = λ j hj. rw (type-agrees k N hk kN j hj) (o .at j hj) } in
+    let o = type-offset (pair-type-words k N kN N-to) in
+    let o′ : Offset 2 (pairType k N) 255 (offsetOf (pairWords k N)) = record { at = λ j hj. rw (type-agrees k N hk kN j hj) (o .at j hj) } in
     let mb = subst (λ (G : Vect). MinimalBasis p 2 G N (typeOf (pairWords k N)) (row 2 w xs)) is (f .minimal) in
     let a : Approximant p 2 (pairSeries p (poly g)) (pairType k N) N (row 2 w xs) i =
     record { order = pair-order k N hk kN; basis = retyped o o′ mb; reduced = f .reduced; least = releast o o′ mb i (f .least-row) } in

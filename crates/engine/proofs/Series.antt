@@ -10,7 +10,8 @@ use lib.ListN.{length, set, length-set}
 use lib.Seq.{getD-set-same, getD-set-other}
 use borrow.Rule.Slice.PartMut.{putMid}
 use Rattle.relation.specs.Pair.{pairSeries}
-use Rattle.row.specs.View.{poly, vector}
+use Rattle.words.specs.Polynomial.{poly}
+use Rattle.row.specs.View.{vector}
 use Rattle.words.specs.Part.{part}
 use Rattle.words.proofs.Part.{put, put-length, put-same, put-other}
 use Rattle.row.proofs.Part.{part-at, row-ext, vector-high}

@@ -6,7 +6,7 @@ use Rattle.engine.specs.declared.PairAnswer.{PairAnswer}
 
 -- the least row's number and the count of shrinking orders, or a refusal
 abbrev pub basisSays : BasisAnswer → Answer
-basisSays (BasisAnswer.Found least count) = result (least ∷ count ∷ [])
+basisSays (BasisAnswer.Found r) = result (r .least ∷ r .count ∷ [])
 basisSays (BasisAnswer.Refused k) = refusal k
 
 -- the pair's result carries no number

@@ -7,7 +7,8 @@ use Rattle.field.specs.Refusal.{Outcome}
 use Rattle.field.specs.Answer.{Answer, refusal}
 use Rattle.relation.specs.Approximant.{Approximant}
 use Rattle.row.specs.View.{vector, row}
-use Rattle.engine.specs.Words.{typeOf, orderOf}
+use Rattle.sizes.specs.Entry.{typeOf}
+use Rattle.engine.specs.Sigma.{orderOf}
 use Rattle.engine.specs.Orders.{approximantOrder}
 use Rattle.engine.specs.Basis.{BasisAnswered}
 

@@ -1,8 +1,8 @@
 -- What the contracts of the engine's calls cite.
-pub mod Words
+pub mod Sigma
 pub mod Answers
 pub mod Orders
-pub mod Sizes
+pub mod PairSizes
 pub mod Basis
 pub mod Approximant
 pub mod Pair

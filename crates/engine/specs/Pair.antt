@@ -6,7 +6,7 @@ use lib.ListN.{length}
 use Rattle.field.specs.Refusal.{Outcome}
 use Rattle.field.specs.Answer.{Answer, result, refusal}
 use Rattle.relation.specs.Pair.{Pair}
-use Rattle.row.specs.View.{poly}
+use Rattle.words.specs.Polynomial.{poly}
 use Rattle.engine.specs.Orders.{pairOrder}
 
 pub record PairWritten (p k : ℕ) (g r t : List ℕ) : Type 0 where

@@ -4,7 +4,7 @@ use mathlib.Core.List.{List, []}
 use Prim.Native.Nat.{ℕ, _+_, _*_, _-_, _≤_}
 use lib.ListN.{length}
 use Rattle.words.specs.Part.{part}
-use Rattle.engine.specs.Words.{basisLength}
+use Rattle.sizes.specs.Lengths.{basisLength}
 
 -- the sizes fit a lent basis of that many words
 pub record ViewFits (words n s i : ℕ) : Type 0 where

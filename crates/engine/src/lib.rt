@@ -2,28 +2,36 @@
 ghost use mathlib.Core.Path.{_≡_};
 ghost use mathlib.Core.Bool.{true};
 ghost use mathlib.Core.Logic.{_↔_};
-ghost use Prim.Native.Nat.{ℕ, _+_, _*_, _-_, _<_, _≤_};
-ghost use lib.ListN.{length, getD, take, drop};
+ghost use mathlib.Core.List.{_++_};
+ghost use Prim.Native.Nat.{_+_, _*_, _<_, _≤_};
+ghost use lib.ListN.{length, take, drop};
 ghost use Rattle.field.specs.Calls.{Tests};
-ghost use Rattle.relation.specs.Sum.{sumTo};
 ghost use Rattle.relation.specs.Pair.{pairSeries};
-ghost use Rattle.row.specs.View.{poly, vector, degreeAt};
-ghost use Rattle.step.specs.Shift.{rowWeight, TypeWords, TopsWithin};
-ghost use Rattle.engine.specs.Words.{orderOf, basisLength};
-ghost use Rattle.engine.specs.Orders.{basisOrder, approximantOrder, pairOrder, startOrder, after};
-ghost use Rattle.engine.specs.Sizes.{Sizes, PairSizes};
+ghost use Rattle.words.specs.Polynomial.{poly};
+ghost use Rattle.row.specs.View.{vector};
+ghost use Rattle.words.specs.Some.{Some};
+ghost use Rattle.sizes.specs.Entry.{EntryOutside};
+ghost use Rattle.sizes.specs.Lengths.{basisLength};
+ghost use Rattle.solve.specs.Sizes.{Sizes};
+ghost use Rattle.engine.specs.Sigma.{orderOf};
+ghost use Rattle.engine.specs.Orders.{buffersOrder, basisOrder, typeOrder, seriesOrder, approximantOrder, pairRestOrder, pairOrder};
+ghost use Rattle.engine.specs.PairSizes.{PairSizes};
 ghost use Rattle.engine.specs.Answers.{basisSays, pairSays};
-ghost use Rattle.engine.specs.Basis.{BasisFound, BasisAnswered, BasisOutcome};
+ghost use Rattle.engine.specs.Basis.{BasisAnswered, BasisOutcome};
 ghost use Rattle.engine.specs.Approximant.{ApproximantOutcome};
 ghost use Rattle.engine.specs.Pair.{PairWritten, PairOutcome};
 ghost use Rattle.engine.specs.RowView.{ViewFits, RowViewed};
 use field::Field;
 use field::Tested;
-use row::Degree;
-use step::Found;
+
+// The least row's number, counted from 1, and how many orders made V smaller.
+pub struct BasisResult {
+    pub least: u32,
+    pub count: u32,
+}
 
 pub enum BasisAnswer {
-    Found { least: u32, count: u32 },
+    Found(BasisResult),
     Refused(u32),
 }
 
@@ -32,67 +40,29 @@ pub enum PairAnswer {
     Refused(u32),
 }
 
-// What the work on a basis finds: the least row, counted from 0, and how many orders made V smaller.
-struct Solved {
-    least: usize,
-    count: usize,
-}
-
-fn test_start(p: u32, n: u32) -> Tested
-    ensures { λ r. ⌜ Tests (startOrder p n) r ⌝ }
-{
-    if !Field::admits(p) {
-        return Tested::Refused(1);
-    }
-    if n < 1 {
-        return Tested::Refused(2);
-    }
-    if n > 8 {
-        return Tested::Refused(2);
-    }
-    Tested::Passed
-}
-
 // Lengths are multiplied only once n and s are known to be small.
-fn test_basis_rest(p: u32, n: u32, s: u32, d: &[u32], series: &[u32], basis: usize) -> Tested
-    requires { ⌜ n ≤ 8 ⌝ }
-    ensures { λ r. ⌜ Tests (after 2 (basisOrder p n s (now (d .entry)) (now (series .entry)) basis)) r ⌝ }
+fn test_buffers(p: u32, n: usize, s: usize, d: &[u32], series: &[u32], basis: usize) -> Tested
+    requires { ⌜ (n ≤ 8) × (s ≤ 255) ⌝ }
+    ensures { λ r. ⌜ Tests (buffersOrder p n s (now (d .entry)) (now (series .entry)) basis) r ⌝ }
 {
-    if s > 255 {
-        return Tested::Refused(3);
-    }
-    let rows = n as usize;
-    let order = s as usize;
-    if d.len() != rows {
+    if basis != n * (n * (s + 1)) {
         return Tested::Refused(4);
     }
-    if series.len() != rows * order {
-        return Tested::Refused(4);
-    }
-    if basis != rows * (rows * (order + 1)) {
-        return Tested::Refused(4);
-    }
-    if words::any_from(d, 256) {
-        return Tested::Refused(5);
-    }
-    if words::any_from(series, p) {
-        return Tested::Refused(6);
-    }
-    Tested::Passed
+    sizes::test_job(p, n, s, d, series)
 }
 
 fn test_basis(p: u32, n: u32, s: u32, d: &[u32], series: &[u32], basis: usize) -> Tested
     ensures { λ r. ⌜ Tests (basisOrder p n s (now (d .entry)) (now (series .entry)) basis) r ⌝ }
 {
-    match test_start(p, n) {
-        Tested::Passed => test_basis_rest(p, n, s, d, series, basis),
+    match sizes::test_sizes(p, n, s) {
+        Tested::Passed => test_buffers(p, n as usize, s as usize, d, series, basis),
         Tested::Refused(k) => Tested::Refused(k),
     }
 }
 
 // σ, for a type that passed its tests.
 fn order_of(n: usize, d: &[u32]) -> usize
-    requires { ⌜ (1 ≤ n) × (n ≤ 8) × (length (now d) ≡ n) × ((i : ℕ) → getD (now d) i 0 ≤ 255) ⌝ }
+    requires { ⌜ (1 ≤ n) × (n ≤ 8) × (length (now d) ≡ n) × (¬ (Some EntryOutside (now d))) ⌝ }
     ensures { λ r. ⌜ (r ≡ orderOf n (now (d .entry))) × (r ≤ 2047) ⌝ }
 {
     let mut sum = 0;
@@ -104,18 +74,29 @@ fn order_of(n: usize, d: &[u32]) -> usize
     sum - 1
 }
 
-fn test_approximant_order(p: u32, n: usize, d: &[u32], series: &[u32], basis: usize) -> Tested
-    requires { ⌜ (1 ≤ n) × (n ≤ 8) × (length (now d) ≡ n) × ((i : ℕ) → getD (now d) i 0 ≤ 255) ⌝ }
-    ensures { λ r. ⌜ Tests (after 4 (approximantOrder p n (now (d .entry)) (now (series .entry)) basis)) r ⌝ }
+fn test_type(n: usize, d: &[u32]) -> Tested
+    ensures { λ r. ⌜ Tests (typeOrder n (now (d .entry))) r ⌝ }
 {
-    let order = order_of(n, d);
-    if order > 255 {
-        return Tested::Refused(3);
-    }
-    if series.len() != n * order {
+    if d.len() != n {
         return Tested::Refused(4);
     }
-    if basis != n * (n * (order + 1)) {
+    if sizes::any_entry_outside(d) {
+        return Tested::Refused(5);
+    }
+    Tested::Passed
+}
+
+fn test_series(p: u32, n: usize, s: usize, series: &[u32], basis: usize) -> Tested
+    requires { ⌜ n ≤ 8 ⌝ }
+    ensures { λ r. ⌜ Tests (seriesOrder p n s (now (series .entry)) basis) r ⌝ }
+{
+    if s > 255 {
+        return Tested::Refused(3);
+    }
+    if series.len() != n * s {
+        return Tested::Refused(4);
+    }
+    if basis != n * (n * (s + 1)) {
         return Tested::Refused(4);
     }
     if words::any_from(series, p) {
@@ -124,31 +105,27 @@ fn test_approximant_order(p: u32, n: usize, d: &[u32], series: &[u32], basis: us
     Tested::Passed
 }
 
-fn test_approximant_type(p: u32, n: u32, d: &[u32], series: &[u32], basis: usize) -> Tested
+fn test_type_and_series(p: u32, n: usize, d: &[u32], series: &[u32], basis: usize) -> Tested
     requires { ⌜ (1 ≤ n) × (n ≤ 8) ⌝ }
-    ensures { λ r. ⌜ Tests (after 2 (approximantOrder p n (now (d .entry)) (now (series .entry)) basis)) r ⌝ }
+    ensures { λ r. ⌜ Tests (typeOrder n (now (d .entry)) ++ seriesOrder p n (orderOf n (now (d .entry))) (now (series .entry)) basis) r ⌝ }
 {
-    let rows = n as usize;
-    if d.len() != rows {
-        return Tested::Refused(4);
+    match test_type(n, d) {
+        Tested::Passed => test_series(p, n, order_of(n, d), series, basis),
+        Tested::Refused(k) => Tested::Refused(k),
     }
-    if words::any_from(d, 256) {
-        return Tested::Refused(5);
-    }
-    test_approximant_order(p, rows, d, series, basis)
 }
 
 fn test_approximant(p: u32, n: u32, d: &[u32], series: &[u32], basis: usize) -> Tested
     ensures { λ r. ⌜ Tests (approximantOrder p n (now (d .entry)) (now (series .entry)) basis) r ⌝ }
 {
-    match test_start(p, n) {
-        Tested::Passed => test_approximant_type(p, n, d, series, basis),
+    match sizes::test_start(p, n) {
+        Tested::Passed => test_type_and_series(p, n as usize, d, series, basis),
         Tested::Refused(k) => Tested::Refused(k),
     }
 }
 
 fn test_pair_rest(p: u32, k: u32, g: &[u32], r: usize, t: usize) -> Tested
-    ensures { λ a. ⌜ Tests (after 1 (pairOrder p k (now (g .entry)) r t)) a ⌝ }
+    ensures { λ a. ⌜ Tests (pairRestOrder p k (now (g .entry)) r t) a ⌝ }
 {
     let order = g.len();
     let first = k as usize;
@@ -222,52 +199,15 @@ pub fn row_view(basis: &[u32], n: u32, s: u32, i: u32) -> &[u32]
     }
 }
 
-fn pivot_sum(tops: [Degree; 8], n: usize) -> usize
-    requires { ⌜ (n ≤ 8) × TopsWithin n 255 tops ⌝ }
-    ensures { λ r. ⌜ r ≡ sumTo n (degreeAt tops) ⌝ }
-{
-    let mut sum = 0;
-    let mut l = 0;
-    while l < n {
-        let top = tops[l];
-        sum += top.0;
-        l += 1;
-    }
-    sum
-}
-
-// The least of all n rows.
-fn least_of(tops: [Degree; 8], d: &[u32], n: usize) -> usize
-    requires { ⌜ (1 ≤ n) × (n ≤ 8) × TypeWords n (now d) × TopsWithin n 255 tops ⌝ }
-    ensures { λ r. ⌜ (r < n) × ((l : ℕ) → l < n → rowWeight n (now (d .entry)) tops r ≤ rowWeight n (now (d .entry)) tops l) ⌝ }
-{
-    match step::least_row([1u32; 8], tops, d, n) {
-        Found::Row(i) => i,
-        Found::Nothing => 0,
-    }
-}
-
-// The basis of order s, with its least row and its count: what basis, approximant and pair share.
-fn solve(f: Field, n: usize, s: usize, d: &[u32], series: &[u32], out: &mut [u32]) -> Solved
-    requires { ⌜ Sizes (f .modulus) n s (now d) (now series) (length (now out)) ⌝ }
-    ensures { λ r. ⌜ BasisFound (f .modulus) n s (now (d .entry)) (now (series .entry)) (now (out .exit)) (r .least) (r .count) ⌝ }
-{
-    let tops = step::reduced_basis(f, n, s, d, series, out);
-    Solved {
-        least: least_of(tops, d, n),
-        count: pivot_sum(tops, n),
-    }
-}
-
 fn answered(f: Field, n: usize, s: usize, d: &[u32], series: &[u32], out: &mut [u32]) -> BasisAnswer
     requires { ⌜ Sizes (f .modulus) n s (now d) (now series) (length (now out)) ⌝ }
     ensures { λ r. ⌜ BasisAnswered (f .modulus) n s (now (d .entry)) (now (series .entry)) (now (out .exit)) (basisSays r) ⌝ }
 {
-    let w = solve(f, n, s, d, series, out);
-    BasisAnswer::Found {
+    let w = solve::solve(f, n, s, d, series, out);
+    BasisAnswer::Found(BasisResult {
         least: (w.least + 1) as u32,
         count: w.count as u32,
-    }
+    })
 }
 
 pub fn basis(p: u32, n: u32, s: u32, d: &[u32], series: &[u32], out: &mut [u32]) -> BasisAnswer
@@ -337,7 +277,7 @@ fn pair_work(
     let width = order + 1;
     pair_series(f, g, series);
     let d = [(k - 1) as u32, (order - k) as u32];
-    let w = solve(f, 2, order, &d, series, basis);
+    let w = solve::solve(f, 2, order, &d, series, basis);
     let start = w.least * (2 * width);
     copy_from(basis, start, r);
     copy_from(basis, start + width, t);

@@ -5,6 +5,7 @@ pub mod Residue
 pub mod Coprime
 pub mod Prime
 pub mod Trial
+pub mod ModulusTest
 pub mod Refusal
 pub mod Tests
 pub mod Unique

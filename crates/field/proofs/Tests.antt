@@ -9,7 +9,7 @@ use Rattle.field.specs.Refusal.{Line, Order, _when_, NoTest, First, Outc
 use Rattle.field.specs.Calls.{Tests, operandOrder}
 use Rattle.field.specs.Modulus.{Modulus}
 use Rattle.field.proofs.Refusal.{none-both, first-left, first-right}
-use Rattle.field.proofs.Trial.{modulus-decided}
+use Rattle.field.proofs.ModulusTest.{modulus-decided}
 
 pub passed : (o : Order) (t : Tested) → Tests o t → t ≡ Tested.Passed → NoTest o
 unfolding Outcome

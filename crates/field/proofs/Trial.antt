@@ -1,4 +1,4 @@
--- Trial division: what has been tried of an odd number, one turn and its two ends; the even prime; and that an admitted modulus is decided.
+-- Trial division: what has been tried of an odd number, one turn and its two ends; and the even prime.
 use mathlib.Core.Path.{_≡_, sym, _∙_, refl}
 use mathlib.Core.Logic.{_≢_, _⊎_, inl, inr, _↔_}
 use Prim.Native.Nat.{ℕ, zero, suc, _+_, _*_, _%_, _/_, _<_, _≤_}
@@ -6,12 +6,11 @@ use native.Mathlib.Nat.{mul-comm, mul-assoc, mul-one, mul-zero, zero-mul, zero-a
 use native.Mathlib.Decide.{ℕ-discrete, decLt}
 use native.Mathlib.Omega.{arith}
 use Rattle.field.specs.Prime.{Divides, Prime}
-use Rattle.field.specs.Modulus.{largest, Modulus}
 
-mod-divides : (d n : ℕ) → n % d ≡ 0 → Divides d n
+pub mod-divides : (d n : ℕ) → n % d ≡ 0 → Divides d n
 mod-divides d n e = (n / d, rw (e, zero-add) at (mod-add-div n d))
 
-divides-mod : (d n : ℕ) → Divides d n → n % d ≡ 0
+pub divides-mod : (d n : ℕ) → Divides d n → n % d ≡ 0
 divides-mod d n (q, e) = rw (← e) (mul-mod-right d q)
 
 -- no number from 2 to below d divides n
@@ -86,38 +85,3 @@ even-prime n u e = (only-two, λ (i : n ≡ 2). rw i (past-root 2 2 (omega arith
       | yes i ↦ i
       | no ni ↦ absurd (composite n 2 (omega arith) (omega arith) e pr)
     ]
-
--- whether a number is an admitted modulus is decided
-find-divisor : (n d : ℕ) → NoneBelow n d ⊎ ((k : ℕ) × (1 < k) × (k < d) × Divides k n)
-find-divisor n zero = inl (λ k u v h. omega arith)
-find-divisor n (suc d) = elim (find-divisor n d) [
-  | inr f ↦ inr (f .0, f .1, omega arith, f .3)
-  | inl none ↦ elim (ℕ-discrete (n % d) 0) [
-    | no nd ↦ inl (λ k u v h. elim (ℕ-discrete k d) [
-      | yes e ↦ nd (divides-mod d n (rw e at h))
-      | no ne ↦ none k u (omega arith) h
-    ])
-    | yes e ↦ elim (decLt 1 d) [
-      | yes u ↦ inr (d, u, omega arith, mod-divides d n e)
-      | no nu ↦ inl (λ k u v h. omega arith)
-    ]
-  ]
-]
-
-prime-decided : (n : ℕ) → Dec (Prime n)
-prime-decided n = elim (decLt 1 n) [
-  | no l ↦ no (λ pr. l (pr .above-one))
-  | yes l ↦ elim (find-divisor n n) [
-    | inl none ↦ yes (past-root n n l l (omega (arith, mul-le-mul {n₁ = 2} {m₁ = n} {n₂ = n} {m₂ = n} (omega arith) (omega arith))) none)
-    | inr f ↦ no (composite n (f .0) (f .1) (f .2) (divides-mod (f .0) n (f .3)))
-  ]
-]
-
-pub modulus-decided : (p : ℕ) → Dec (Modulus p)
-modulus-decided p = elim (prime-decided p) [
-  | no n ↦ no (λ m. n (m .prime))
-  | yes pr ↦ elim (decLt largest p) [
-    | yes l ↦ no (λ m. omega (arith, m .at-most))
-    | no l ↦ yes (record { prime = pr; at-most = omega arith })
-  ]
-]

@@ -1,6 +1,6 @@
 -- A test that answers true exactly where a statement holds, and what a test that does not hold says.
 use mathlib.Core.Path.{_≡_, refl, _∙_, sym}
-use mathlib.Core.Bool.{Bool, true, false, false≢true}
+use mathlib.Core.Bool.{Bool, true, false, not, _&&_, false≢true}
 use mathlib.Core.Logic.{_↔_, _≢_, _⊎_, ⊎-elim, inl, inr}
 use Prim.Native.Nat.{ℕ}
 use native.Mathlib.Decide.{ℕ-discrete}
@@ -10,6 +10,14 @@ shown a = (λ e. a, λ x. refl)
 
 pub refuted : {A : Type 0} → ¬ A → (false ≡ true) ↔ A
 refuted n = (λ e. absurd (false≢true e), λ a. absurd (n a))
+
+pub both : {A B : Type 0} (t u : Bool) → (t ≡ true) ↔ A → (u ≡ true) ↔ B → ((t && u) ≡ true) ↔ (A × B)
+both true u i j = (λ e. (i .0 refl, j .0 e), λ h. j .1 (h .1))
+both false u i j = refuted (λ h. false≢true (i .1 (h .0)))
+
+pub negated : {A : Type 0} (t : Bool) → (t ≡ true) ↔ A → (not t ≡ true) ↔ (¬ A)
+negated true i = refuted (λ n. n (i .0 refl))
+negated false i = shown (λ a. false≢true (i .1 a))
 
 -- what a test that failed says
 pub fails : {A : Type 0} (t : Bool) → (t ≡ true) ↔ A → t ≡ false → ¬ A

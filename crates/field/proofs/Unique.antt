@@ -3,8 +3,7 @@ use mathlib.Core.Path.{_≡_, refl, sym, ap, _∙_}
 use mathlib.Core.Bool.{Bool, true, false}
 use mathlib.Core.Logic.{_⊎_, inl, inr, _↔_}
 use mathlib.Core.List.{[], _∷_}
-use Prim.Native.Nat.{ℕ, _+_, _*_, _%_, _<_}
-use native.Mathlib.Nat.{mod-eq-of-lt}
+use Prim.Native.Nat.{ℕ, _+_, _*_}
 use Rattle.field.specs.Refusal.{Order}
 use Rattle.field.specs.Answer.{Answer, result, refusal, no-inverse}
 use Rattle.field.specs.Calls.{Says, fieldSays, residueSays, inverseSays, MakeOutcome, ResidueOutcome, AddOutcome, MultiplyOutcome, InvertOutcome}
@@ -13,7 +12,6 @@ use Rattle.field.specs.declared.FieldAnswer.{FieldAnswer}
 use Rattle.field.specs.declared.ResidueAnswer.{ResidueAnswer}
 use Rattle.field.specs.declared.InverseAnswer.{InverseAnswer}
 use Rattle.field.proofs.Refusal.{same-outcome}
-use Rattle.field.proofs.Residue.{cancel-mod}
 use Rattle.field.proofs.Prime.{zero-no-inverse, inverse-unique}
 
 -- what the answers say tells them apart
@@ -82,7 +80,3 @@ test-unique true true h h′ = refl
 test-unique true false h h′ = sym (h′ .1 (h .0 refl))
 test-unique false true h h′ = h .1 (h′ .0 refl)
 test-unique false false h h′ = refl
-
-pub negative-unique : (p a r r′ : ℕ) → 0 < p → (r < p) × ((a + r) % p ≡ 0) → (r′ < p) × ((a + r′) % p ≡ 0) → r ≡ r′
-negative-unique p a r r′ h u v =
-    sym (mod-eq-of-lt (u .0)) ∙ cancel-mod p a a r r′ h (u .1 ∙ sym (v .1)) refl ∙ mod-eq-of-lt (v .0)

@@ -2,6 +2,7 @@
 pub mod Prime
 pub mod Coprime
 pub mod Modulus
+pub mod ModulusTest
 pub mod Inverse
 pub mod Refusal
 pub mod Answer

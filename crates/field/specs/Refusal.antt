@@ -26,10 +26,6 @@ unfoldable pub First : Order → ℕ → Type 0
 First [] k = ⊥
 First (l ∷ o) k = (l .test × (l .number ≡ k)) ⊎ ((¬ (l .test)) × First o k)
 
--- k is the number of the first test that holds, or 0 where none does
-unfoldable pub FirstOrNone : Order → ℕ → Type 0
-FirstOrNone o k = (NoTest o × (k ≡ 0)) ⊎ First o k
-
 -- a call answers where no test holds, and else is refused with the number of the first that does
 unfoldable pub Outcome : Order → (ℕ → Type 0) → Type 0 → Type 0
 Outcome o Refused Answered = (NoTest o × Answered) ⊎ ((k : ℕ) × First o k × Refused k)

@@ -181,15 +181,6 @@ impl Field {
         self.residue(a as u64 + b as u64 * c as u64)
     }
 
-    // The number to add for a difference.
-    pub fn negative(self, a: u32) -> u32
-        requires { ⌜ (0 < self .modulus) × (a < self .modulus) ⌝ }
-        ensures { λ r. ⌜ (r < self .modulus) × ((a + r) % self .modulus ≡ 0) ⌝ }
-    {
-        let p = self.modulus;
-        (p - a) % p
-    }
-
     pub fn inverse(self, a: u32) -> u32
         requires { ⌜ Prime (self .modulus) × (0 < a) × (a < self .modulus) ⌝ }
         ensures { λ r. ⌜ Inverse (self .modulus) a r ⌝ }

@@ -6,20 +6,26 @@
 use mathlib.Core.Path.{_≡_, refl, ap, sym, subst, _∙_}
 use mathlib.Core.Logic.{inl, inr}
 use mathlib.Core.List.{List, [], _∷_}
-use Prim.Native.Nat.{ℕ, _*_, _/_}
+use Prim.Native.Nat.{ℕ, _*_}
 use native.Mathlib.Omega.{arith}
 use lib.ListN.{length, take}
 use lib.Seq.{take-at}
 use Rattle.field.specs.Refusal.{NoTest, Outcome}
 use Rattle.field.specs.Answer.{Answer, result, refusal}
 use Rattle.field.proofs.Refusal.{same-outcome, none-both, answer}
+use Rattle.sizes.specs.declared.JobSizes.{JobSizes}
 use Rattle.block.specs.File.{blocksFor}
+use Rattle.block.specs.Part.{blocksIn}
+use Rattle.block.specs.Lent.{over}
+use Rattle.block.proofs.Over.{first-over}
+use Rattle.jobfile.specs.Lengths.{typeWords, seriesWords, fileBytes}
 use Rattle.jobfile.specs.Job.{Job, Admitted, jobOf}
 use Rattle.jobfile.specs.Layout.{wordsOf, layout}
 use Rattle.jobfile.specs.Payload.{jobIn}
-use Rattle.jobfile.specs.Orders.{sizeTests, readerOrder, bufferTests, writerOrder}
+use Rattle.sizes.specs.Orders.{sizesOrder}
+use Rattle.sizes.proofs.Entry.{none-outside}
+use Rattle.jobfile.specs.Orders.{readerOrder, bufferTests, writerOrder}
 use Rattle.jobfile.specs.Answers.{jobSays, writeSays}
-use Rattle.jobfile.specs.Lent.{over}
 use Rattle.jobfile.specs.Outcomes.{JobRead, ReadOutcome, JobWritten, WriteOutcome}
 use Rattle.jobfile.specs.declared.JobAnswer.{JobAnswer}
 use Rattle.jobfile.specs.declared.WriteAnswer.{WriteAnswer}
@@ -30,11 +36,14 @@ use Rattle.jobfile.proofs.LaidOut.{length-words, length-layout, blocks-
 pub layout-injective : (i j : Job) → Admitted i → Admitted j → layout i ≡ layout j → i ≡ j
 layout-injective i j a b e = sym (job-layout i a) ∙ ap jobIn e ∙ job-layout j b
 
+same-sizes : (j j′ : JobSizes) → j .p ≡ j′ .p → j .n ≡ j′ .n → j .s ≡ j′ .s → j ≡ j′
+same-sizes j j′ p n s = λ i. record { p = p i; n = n i; s = s i }
+
 -- what the answers say tells them apart
 job-told : (r r′ : JobAnswer) → jobSays r ≡ jobSays r′ → r ≡ r′
-job-told (JobAnswer.Job p n s) (JobAnswer.Job p′ n′ s′) e = cc
-job-told (JobAnswer.Job p n s) (JobAnswer.Refused k) e = cc
-job-told (JobAnswer.Refused k) (JobAnswer.Job p n s) e = cc
+job-told (JobAnswer.Job j) (JobAnswer.Job j′) e = ap JobAnswer.Job (same-sizes j j′ (cc) (cc) (cc))
+job-told (JobAnswer.Job j) (JobAnswer.Refused k) e = cc
+job-told (JobAnswer.Refused k) (JobAnswer.Job j) e = cc
 job-told (JobAnswer.Refused k) (JobAnswer.Refused k′) e = cc
 
 write-told : (r r′ : WriteAnswer) → writeSays r ≡ writeSays r′ → r ≡ r′
@@ -59,7 +68,7 @@ of-job {file} {d} {series} r j e = (
 -- the reader, lent `file`, `d` and `series`, said `said` and left `d′` and `series′`
 module _ (file d series : List ℕ) (said : Answer) (d′ series′ : List ℕ) (o : ReadOutcome file d series said d′ series′) where
   -- the layout of an admitted job is accepted, and that job is answered
-  pub reads-layouts : length d ≡ 8 → length series ≡ 2040 → (j : Job) → Admitted j → file ≡ layout j
+  pub reads-layouts : length d ≡ typeWords → length series ≡ seriesWords → (j : Job) → Admitted j → file ≡ layout j
       → (said ≡ result (j .p ∷ j .n ∷ j .s ∷ [])) × (d′ ≡ over (j .d) d) × (series′ ≡ over (j .series) series)
   unfolding ReadOutcome
   reads-layouts ld ls j a e =
@@ -96,13 +105,13 @@ write-unique p n s d series out r r′ out₁ out₂ h h′ = elim (same-outcome
 ]
 
 -- no test of the writer holds of an admitted job
-pub writer-passes : (p n s : ℕ) (d series : List ℕ) → Admitted (jobOf p n s d series) → (out : ℕ) → out ≡ 8704
+pub writer-passes : (p n s : ℕ) (d series : List ℕ) → Admitted (jobOf p n s d series) → (out : ℕ) → out ≡ fileBytes
     → NoTest (writerOrder p n s d series out)
 unfolding NoTest
 writer-passes p n s d series a out e =
-    none-both (sizeTests p n s) (bufferTests p n s d series out) (layout-sizes (jobOf p n s d series) a) (
-      no-either (exact (a .type-words)) (no-either (exact (a .series-words)) (exact e)),
-      ((λ f. omega (arith, f .2, a .entries (f .0))), ((λ f. omega (arith, f .2, a .coefficients (f .0))), tt)),
+    none-both (sizesOrder p n s) (bufferTests p n s d series out) (layout-sizes (jobOf p n s d series) a) (
+      exact e,
+      (no-either (exact (a .type-words)) (exact (a .series-words)), (none-outside d (a .entries), ((λ f. omega (arith, f .2, a .coefficients (f .0))), tt))),
     )
 
 -- the writer said `said` and left `out′`
@@ -125,12 +134,12 @@ module _ (p n s : ℕ) (d series out : List ℕ) (said : Answer) (out′ : List 
       told q = cc
 
   -- an admitted job is written
-  pub writes-admitted : Admitted (jobOf p n s d series) → length out ≡ 8704 → JobWritten (jobOf p n s d series) out said out′
+  pub writes-admitted : Admitted (jobOf p n s d series) → length out ≡ fileBytes → JobWritten (jobOf p n s d series) out said out′
   unfolding WriteOutcome
   writes-admitted a l = answer _ _ _ o (writer-passes p n s d series a (length out) l)
 
   -- what is written is read back to the same job
-  pub written-read-back : (m : ℕ) → said ≡ result (m ∷ []) → (ld lf : List ℕ) (read : Answer) (ld′ lf′ : List ℕ) → length ld ≡ 8 → length lf ≡ 2040
+  pub written-read-back : (m : ℕ) → said ≡ result (m ∷ []) → (ld lf : List ℕ) (read : Answer) (ld′ lf′ : List ℕ) → length ld ≡ typeWords → length lf ≡ seriesWords
       → ReadOutcome (take (512 * m) out′) ld lf read ld′ lf′
       → (read ≡ result (p ∷ n ∷ s ∷ [])) × (ld′ ≡ over d ld) × (lf′ ≡ over series lf)
   written-read-back m e ld lf read ld′ lf′ hd hf r =
@@ -140,15 +149,11 @@ module _ (p n s : ℕ) (d series out : List ℕ) (said : Answer) (out′ : List 
 same-job : (j : Job) (p n s : ℕ) (d series : List ℕ) → p ≡ j .p → n ≡ j .n → s ≡ j .s → d ≡ j .d → series ≡ j .series → jobOf p n s d series ≡ j
 same-job j p n s d series ep en es ed ef = λ i. record { p = ep i; n = en i; s = es i; d = ed i; series = ef i }
 
--- the first n of what was written over
-first-over : (ws lent : List ℕ) (n : ℕ) (left : List ℕ) → length ws ≡ n → left ≡ over ws lent → take n left ≡ ws
-first-over ws lent n left l e = ap (take n) e ∙ take-at ws _ n l
-
 -- a file that is read is written back to the same bytes
 pub read-written-back : (file ld lf ld′ lf′ : List ℕ) (p n s : ℕ) → ReadOutcome file ld lf (result (p ∷ n ∷ s ∷ [])) ld′ lf′
-    → (out : List ℕ) (said : Answer) (out′ : List ℕ) → length out ≡ 8704
+    → (out : List ℕ) (said : Answer) (out′ : List ℕ) → length out ≡ fileBytes
     → WriteOutcome p n s (take n ld′) (take (n * s) lf′) out said out′
-    → (said ≡ result (length file / 512 ∷ [])) × (out′ ≡ over file out)
+    → (said ≡ result (blocksIn file ∷ [])) × (out′ ≡ over file out)
 read-written-back file ld lf ld′ lf′ p n s o out said out′ l w =
     let r = reads-only-layouts file ld lf _ ld′ lf′ o _ refl in
     let j = r .job in
@@ -160,8 +165,8 @@ read-written-back file ld lf ld′ lf′ p n s o out said out′ l w =
     let ef = first-over (j .series) lf (n * s) lf′ (a .series-words ∙ cc (en, es)) (r .series-written) in
     let same : jobOf p n s (take n ld′) (take (n * s) lf′) ≡ j = same-job j p n s _ _ ep en es ed ef in
     let written = writes-admitted p n s _ _ out said out′ w (subst (λ (i : Job). Admitted i) (sym same) a) l in
-    let blocks : blocksFor (length (wordsOf j)) ≡ length file / 512 =
-    ap blocksFor (length-words j a) ∙ sym (blocks-layout j a) ∙ ap (λ (f : List ℕ). length f / 512) (sym (r .laid-out)) in (
+    let blocks : blocksFor (length (wordsOf j)) ≡ blocksIn file =
+    ap blocksFor (length-words j a) ∙ sym (blocks-layout j a) ∙ ap blocksIn (sym (r .laid-out)) in (
       written .says ∙ ap (λ (i : Job). result (blocksFor (length (wordsOf i)) ∷ [])) same ∙ ap (λ (m : ℕ). result (m ∷ [])) blocks,
       written .file-written ∙ ap (λ (i : Job). over (layout i) out) same ∙ ap (λ (f : List ℕ). over f out) (sym (r .laid-out)),
     )

@@ -6,7 +6,7 @@ use Rattle.jobfile.specs.declared.WriteAnswer.{WriteAnswer}
 
 -- p, n and s, or a refusal
 abbrev pub jobSays : JobAnswer → Answer
-jobSays (JobAnswer.Job p n s) = result (p ∷ n ∷ s ∷ [])
+jobSays (JobAnswer.Job j) = result (j .p ∷ j .n ∷ j .s ∷ [])
 jobSays (JobAnswer.Refused k) = refusal k
 
 -- how many blocks, or a refusal

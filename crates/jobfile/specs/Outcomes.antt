@@ -6,10 +6,10 @@ use lib.ListN.{length}
 use Rattle.field.specs.Refusal.{Outcome}
 use Rattle.field.specs.Answer.{Answer, result, refusal}
 use Rattle.block.specs.File.{blocksFor}
+use Rattle.block.specs.Lent.{over}
 use Rattle.jobfile.specs.Job.{Job, Admitted, jobOf}
 use Rattle.jobfile.specs.Layout.{wordsOf, layout}
 use Rattle.jobfile.specs.Orders.{readerOrder, writerOrder}
-use Rattle.jobfile.specs.Lent.{over}
 
 -- the file is the layout of an admitted job, which is answered: its type and series are written, and no other words
 pub record JobRead (file lent-d lent-series : List ℕ) (said : Answer) (left-d left-series : List ℕ) : Type 0 where

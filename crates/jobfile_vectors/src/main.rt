@@ -1,6 +1,9 @@
 // Job files run: C1's file is written and read back, and the largest file is read after damage of each kind, in each block. A number is
 // the reader's refusal, and 0 where it accepts.
+use jobfile::FILE_BYTES;
 use jobfile::JobAnswer;
+use jobfile::SERIES_WORDS;
+use jobfile::TYPE_WORDS;
 use jobfile::WriteAnswer;
 use libc::STDOUT_FILENO;
 ghost use mathlib.Core.Path.{_≡_};
@@ -14,7 +17,7 @@ fn main() {
     writer_refusals();
     let mut bytes = [0u8; 9216];
     let file: &mut [u8] = &mut bytes;
-    largest(file, 8704);
+    largest(file, FILE_BYTES);
     damaged_blocks(file);
     damaged_p(file);
     damaged_n(file);
@@ -86,11 +89,11 @@ fn changed_bytes(l: &[u8], from: usize) -> u32 {
 
 fn said_job(a: JobAnswer) {
     match a {
-        JobAnswer::Job { p, n, s } => {
+        JobAnswer::Job(job) => {
             text(b"job");
-            number(p as u64);
-            number(n as u64);
-            number(s as u64);
+            number(job.p as u64);
+            number(job.n as u64);
+            number(job.s as u64);
         }
         JobAnswer::Refused(k) => {
             text(b"refused");
@@ -117,7 +120,7 @@ fn said_written(a: WriteAnswer) {
 fn worked() {
     let type_words = [0u32, 2];
     let coefficients = [6u32, 0, 0, 1, 1, 2];
-    let mut bytes = [170u8; 8704];
+    let mut bytes = [170u8; FILE_BYTES];
     said_written(jobfile::write_job(7, 2, 3, &type_words, &coefficients, &mut bytes));
     number(changed_bytes(&bytes, 512) as u64);
     text(b"\n");
@@ -129,8 +132,8 @@ fn worked() {
 fn read_back(file: &[u8], count: usize)
     requires { ⌜ count ≤ length (now file) ⌝ }
 {
-    let mut d = [9u32; 8];
-    let mut series = [9u32; 2040];
+    let mut d = [9u32; TYPE_WORDS];
+    let mut series = [9u32; SERIES_WORDS];
     said_job(jobfile::read_job(&file[..count], &mut d, &mut series));
     words(&d, 8);
     words(&series, 8);
@@ -157,17 +160,17 @@ fn writer_refusals() {
     let three = [256u32, 2, 0];
     let five = [6u32, 0, 0, 1, 7];
     text(b"writer\n");
-    written(4, 9, 256, &three, &f, 8703);
-    written(7, 0, 256, &three, &f, 8703);
-    written(7, 9, 256, &three, &f, 8703);
-    written(7, 2, 256, &three, &f, 8703);
-    written(7, 2, 3, &three, &f, 8704);
-    written(7, 2, 3, &high, &five, 8704);
-    written(7, 2, 3, &high, &f, 8703);
-    written(7, 2, 3, &high, &f, 8705);
-    written(7, 2, 3, &high, &f, 8704);
-    written(7, 2, 3, &d, &f, 8704);
-    written(11, 2, 3, &d, &f, 8704);
+    written(4, 9, 256, &three, &f, FILE_BYTES - 1);
+    written(7, 0, 256, &three, &f, FILE_BYTES - 1);
+    written(7, 9, 256, &three, &f, FILE_BYTES - 1);
+    written(7, 2, 256, &three, &f, FILE_BYTES - 1);
+    written(7, 2, 3, &three, &f, FILE_BYTES);
+    written(7, 2, 3, &high, &five, FILE_BYTES);
+    written(7, 2, 3, &high, &f, FILE_BYTES - 1);
+    written(7, 2, 3, &high, &f, FILE_BYTES + 1);
+    written(7, 2, 3, &high, &f, FILE_BYTES);
+    written(7, 2, 3, &d, &f, FILE_BYTES);
+    written(11, 2, 3, &d, &f, FILE_BYTES);
 }
 
 // The coefficients of the largest job.
@@ -186,7 +189,7 @@ fn largest(file: &mut [u8], count: usize)
     requires { ⌜ (length (now file) ≡ 9216) × (count ≤ 9216) ⌝ }
 {
     let d = [255u32, 0, 1, 2, 3, 4, 5, 254];
-    let mut series = [0u32; 2040];
+    let mut series = [0u32; SERIES_WORDS];
     coefficients(&mut series);
     text(b"largest\n");
     said_written(jobfile::write_job(LARGEST, 8, 255, &d, &series, &mut file[..count]));
@@ -202,10 +205,10 @@ fn largest(file: &mut [u8], count: usize)
 fn read(file: &[u8], count: usize) -> u64
     requires { ⌜ count ≤ length (now file) ⌝ }
 {
-    let mut d = [9u32; 8];
-    let mut series = [9u32; 2040];
+    let mut d = [9u32; TYPE_WORDS];
+    let mut series = [9u32; SERIES_WORDS];
     match jobfile::read_job(&file[..count], &mut d, &mut series) {
-        JobAnswer::Job { p: _, n: _, s: _ } => 0,
+        JobAnswer::Job(_) => 0,
         JobAnswer::Refused(k) => {
             if changed(&d) != 0 {
                 return 1000;
@@ -236,7 +239,7 @@ fn damage(file: &mut [u8], i: usize, w: u32, sealed: bool)
 {
     let old = block::word_at(file, i);
     put(file, i, w, sealed);
-    number(read(file, 8704));
+    number(read(file, FILE_BYTES));
     put(file, i, old, sealed);
 }
 
@@ -389,10 +392,10 @@ fn lent_lengths(file: &[u8])
     requires { ⌜ length (now file) ≡ 9216 ⌝ }
 {
     text(b"lent\n");
-    lent(file, 8704, 7, 2040);
-    lent(file, 8704, 9, 2040);
-    lent(file, 8704, 8, 2039);
-    lent(file, 8704, 8, 2041);
-    lent(file, 1, 8, 0);
-    lent(file, 8704, 8, 2040);
+    lent(file, FILE_BYTES, TYPE_WORDS - 1, SERIES_WORDS);
+    lent(file, FILE_BYTES, TYPE_WORDS + 1, SERIES_WORDS);
+    lent(file, FILE_BYTES, TYPE_WORDS, SERIES_WORDS - 1);
+    lent(file, FILE_BYTES, TYPE_WORDS, SERIES_WORDS + 1);
+    lent(file, 1, TYPE_WORDS, 0);
+    lent(file, FILE_BYTES, TYPE_WORDS, SERIES_WORDS);
 }

@@ -1,6 +1,6 @@
 -- From the calls' outcomes to the printed text: an admitted job passes the tests of the basis call and of the text, and the words that the reader left are the job.
 use mathlib.Core.Path.{_≡_, ap, sym, _∙_, subst}
-use mathlib.Core.Logic.{_⊎_, inl, inr, ⊎-elim}
+use mathlib.Core.Logic.{inl, inr, ⊎-elim}
 use mathlib.Core.List.{List, [], _∷_}
 use Prim.Native.Nat.{ℕ, _+_, _*_, _≤_}
 use native.Mathlib.Omega.{arith}
@@ -8,16 +8,21 @@ use lib.ListN.{length, take, drop, length-append}
 use lib.Seq.{take-at}
 use Rattle.field.specs.Refusal.{NoTest, First, Outcome}
 use Rattle.field.specs.Answer.{Answer, result, refusal}
-use Rattle.engine.specs.Words.{basisLength}
-use Rattle.engine.specs.Orders.{basisOrder}
+use Rattle.sizes.specs.Lengths.{basisLength}
+use Rattle.sizes.specs.Entry.{EntryOutside}
+use Rattle.sizes.specs.Orders.{sizesOrder}
+use Rattle.sizes.proofs.Entry.{outside-above}
+use Rattle.engine.specs.Orders.{buffersOrder, basisOrder}
 use Rattle.engine.specs.Basis.{BasisAnswered, BasisOutcome}
-use Rattle.field.proofs.Refusal.{answer}
+use Rattle.field.proofs.Refusal.{answer, none-both}
+use Rattle.field.proofs.Truth.{no-either, exact}
+use Rattle.words.specs.Some.{Some}
 use Rattle.jobfile.specs.Job.{Job, Admitted, jobOf}
 use Rattle.jobfile.specs.Layout.{layout}
 use Rattle.jobfile.specs.Orders.{readerOrder}
 use Rattle.jobfile.specs.Outcomes.{JobRead, ReadOutcome}
 use Rattle.report.specs.Text.{basisText}
-use Rattle.report.specs.Calls.{basisOrder as textOrder, refusalOrder, WriteOutcome, BasisOutcome as TextOutcome}
+use Rattle.report.specs.Calls.{basisTextOrder, refusalTextOrder, TextOutcome, BasisTextOutcome}
 use Rattle.jobreport.specs.Printed.{PrintOutcome, JobPrintOutcome}
 
 -- a refusal is no result
@@ -27,27 +32,21 @@ no-refusal k l e = let z : _≡_ {A = ℕ} 0 1 = cc in omega arith
 module _ (j : Job) (ad : Admitted j) where
   pub passes : (words : ℕ) → words ≡ basisLength (j .n) (j .s) → NoTest (basisOrder (j .p) (j .n) (j .s) (j .d) (j .series) words)
   unfolding NoTest
-  passes words full = (
-    λ h. h (ad .modulus),
-    (
-      ⊎-elim (λ h. omega (arith, ad .n-from)) (λ h. omega (arith, ad .n-to)),
-      (
-        λ h. omega (arith, ad .s-to),
-        (
-          ⊎-elim (λ h. h (ad .type-words)) (⊎-elim (λ h. h (ad .series-words)) (λ h. h full)),
-          (
-            λ h. omega (arith, h .2, ad .entries (h .0)),
-            (λ h. omega (arith, h .2, ad .coefficients (h .0)), tt),
-          ),
-        ),
-      ),
-    ),
-  )
+  passes words full =
+      none-both (sizesOrder (j .p) (j .n) (j .s)) (buffersOrder (j .p) (j .n) (j .s) (j .d) (j .series) words)
+      ((λ h. h (ad .modulus)), (no-either (omega (arith, ad .n-from)) (omega (arith, ad .n-to)), (omega (arith, ad .s-to), tt)))
+      (exact full, (no-either (exact (ad .type-words)) (exact (ad .series-words)), (entries, (coefficients, tt))))
+    where
+      entries : ¬ (Some EntryOutside (j .d))
+      entries h = omega (arith, outside-above _ (h .2), ad .entries (h .0))
+
+      coefficients : ¬ (Some (λ x. j .p ≤ x) (j .series))
+      coefficients h = omega (arith, h .2, ad .coefficients (h .0))
 
   -- the text's sizes are those of the job, so that only the buffer's length is left to test
   text-order : (words : ℕ) (text before after : List ℕ) (said : Answer) → words ≡ basisLength (j .n) (j .s)
-      → WriteOutcome (textOrder (j .n) (j .s) (length (j .d)) words (length before)) text before after said
-      → WriteOutcome (refusalOrder (length before)) text before after said
+      → TextOutcome (basisTextOrder (j .n) (j .s) (length (j .d)) words (length before)) text before after said
+      → TextOutcome (refusalTextOrder (length before)) text before after said
   unfolding Outcome NoTest First
   text-order words text before after said full (inl o) = inl ((λ h. o .0 .1 .1 .0 (inr (inr h)), tt), o .1)
   text-order words text before after said full (inr (k, inl t, r)) = absurd (⊎-elim (λ h. omega (arith, ad .n-from)) (λ h. omega (arith, ad .n-to)) (t .0))
@@ -67,8 +66,8 @@ module _ (j : Job) (ad : Admitted j) where
     not-refused k e = no-refusal k _ (sym e ∙ answered .says)
 
     pub printed : (least count : ℕ) (before after : List ℕ) (wrote : Answer) → said ≡ result (least ∷ count ∷ [])
-        → TextOutcome (j .p) (j .n) (j .s) (j .d) left least before after wrote → JobPrintOutcome j before after wrote
-    unfolding TextOutcome JobPrintOutcome
+        → BasisTextOutcome (j .p) (j .n) (j .s) (j .d) left least before after wrote → JobPrintOutcome j before after wrote
+    unfolding BasisTextOutcome JobPrintOutcome
     printed least count before after wrote e o =
         let a = answered in
         let q : result (least ∷ count ∷ []) ≡ result ((a .least + 1) ∷ a .count ∷ []) = sym e ∙ a .says in
@@ -111,14 +110,3 @@ module _ (file lent-d lent-series left-d left-series : List ℕ) (said : Answer)
       | inl o ↦ (subst (λ (j : Job). Admitted j) (same-job (o .1)) (o .1 .admitted), o .1 .laid-out ∙ ap layout (same-job (o .1)))
       | inr o ↦ absurd (no-refusal (o .0) _ (sym (o .2 .0) ∙ e))
     ]
-
--- the text is no longer than the buffer that it was written to
-pub text-fits : (file before after : List ℕ) (said : Answer) (k : ℕ) → PrintOutcome file before after said → said ≡ result (k ∷ []) → k ≤ length after
-unfolding PrintOutcome Outcome
-text-fits file before after said k o e = elim (o .2) as (λ _. k ≤ length after) [
-  | inl w ↦
-      let q : result (k ∷ []) ≡ result (length (o .0) ∷ []) = sym e ∙ w .1 .0 in
-      let i : k ≡ length (o .0) = cc in
-      rw (w .1 .1) (omega (arith, length-append (o .0) (drop (length (o .0)) before)))
-  | inr w ↦ absurd (no-refusal (w .0) _ (sym (w .2 .0) ∙ e))
-]

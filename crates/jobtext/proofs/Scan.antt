@@ -1,16 +1,14 @@
 -- The scan, byte by byte, from a position of the text.
 use mathlib.Core.Path.{_≡_, refl, sym, ap, _∙_}
-use mathlib.Core.Bool.{true, false}
 use mathlib.Core.List.{List, [], _∷_, _++_}
-use Prim.Native.Nat.{ℕ, zero, suc, _+_, _-_, _≤_, _<_}
+use Prim.Native.Nat.{ℕ, suc, _+_, _-_, _≤_, _<_}
 use native.Mathlib.Numerals.{add-one}
 use native.Mathlib.Omega.{arith}
-use lib.Dec.{eqb}
 use lib.ListN.{length, getD, take, drop, length-drop, drop-of-length-le}
 use lib.Seq.{drop-cons, take-suc, getD-drop}
-use borrow.Author.Tests.{eq-eqb, ne-eqb}
+use borrow.Author.Tests.{ne-eqb}
 use Rattle.jobtext.specs.declared.Class.{Class}
-use Rattle.jobtext.specs.Tokens.{Tokens, over, word, classOf, Standing, between, comment, within, scan, rest}
+use Rattle.jobtext.specs.Tokens.{Tokens, textEnd, word, classOf, between, comment, within, scan, rest}
 
 module _ (b : ℕ) (t : List ℕ) (l : ℕ) where
   step-newline : classOf b ≡ Class.Newline → scan between l (b ∷ t) ≡ scan between (suc l) t
@@ -56,7 +54,7 @@ module _ (b : ℕ) (t : List ℕ) (l : ℕ) where
 -- a scan in a word gives a word
 pub a-word : (t w : List ℕ) (l : ℕ) → (v : List ℕ) × (u : Tokens) × (scan (within w) l t ≡ word l v u)
 unfolding scan
-a-word [] w l = (w, over l, refl)
+a-word [] w l = (w, textEnd l, refl)
 a-word (b ∷ t) w l = go (classOf b) refl (a-word t (w ++ (b ∷ [])) l)
   where
     go : (c : Class) → classOf b ≡ c → ((v : List ℕ) × (u : Tokens) × (scan (within (w ++ (b ∷ []))) l t ≡ word l v u)) → (v : List ℕ) × (u : Tokens) × (scan (within w) l (b ∷ t) ≡ word l v u)
@@ -94,7 +92,8 @@ module _ (text : List ℕ) (at : ℕ) (h : at < length text) where
   unfolding rest
   comment-stop l c = ap (scan comment l) here ∙ comment-off (getD text at 0) (drop (at + 1) text) l c ∙ sym (ap (scan between l) here)
 
-  stop : (l : ℕ) (w : List ℕ) → scan (within w) l (getD text at 0 ∷ drop (at + 1) text) ≡ word l w (scan between l (getD text at 0 ∷ drop (at + 1) text)) → scan (within w) l (drop at text) ≡ word l w (rest text at l)
+  stop : (l : ℕ) (w : List ℕ) → scan (within w) l (getD text at 0 ∷ drop (at + 1) text) ≡ word l w (scan between l (getD text at 0 ∷ drop (at + 1) text))
+      → scan (within w) l (drop at text) ≡ word l w (rest text at l)
   unfolding rest
   stop l w e = ap (scan (within w) l) here ∙ e ∙ sym (ap (λ (r : List ℕ). word l w (scan between l r)) here)
 
@@ -126,14 +125,14 @@ module _ (text : List ℕ) (at : ℕ) (h : length text ≤ at) where
   none : drop at text ≡ []
   none = drop-of-length-le text h
 
-  pub rest-over : (l : ℕ) → rest text at l ≡ over l
+  pub rest-past : (l : ℕ) → rest text at l ≡ textEnd l
   unfolding rest scan
-  rest-over l = ap (scan between l) none
+  rest-past l = ap (scan between l) none
 
-  pub comment-over : (l : ℕ) → scan comment l (drop at text) ≡ rest text at l
+  pub comment-past : (l : ℕ) → scan comment l (drop at text) ≡ rest text at l
   unfolding scan
-  comment-over l = ap (scan comment l) none ∙ sym (rest-over l)
+  comment-past l = ap (scan comment l) none ∙ sym (rest-past l)
 
-  pub word-over : (l : ℕ) (w : List ℕ) → scan (within w) l (drop at text) ≡ word l w (rest text at l)
+  pub word-past : (l : ℕ) (w : List ℕ) → scan (within w) l (drop at text) ≡ word l w (rest text at l)
   unfolding scan
-  word-over l w = ap (scan (within w) l) none ∙ ap (word l w) (sym (rest-over l))
+  word-past l w = ap (scan (within w) l) none ∙ ap (word l w) (sym (rest-past l))

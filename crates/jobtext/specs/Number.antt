@@ -1,17 +1,17 @@
 -- Number: a word read as a decimal number of 32 bits; one that is no number comes before one that is too large.
-use mathlib.Core.Bool.{Bool, true, false, cond}
+use mathlib.Core.Bool.{true, false, cond}
 use mathlib.Core.List.{List, [], _∷_}
 use Prim.Native.Nat.{ℕ, _+_, _*_, _-_, _^_}
 use lib.Dec.{ltb}
 use Rattle.jobtext.specs.declared.Numeral.{Numeral}
 
 -- v is the number that was read so far; 48 to 57 are the digits
-unfoldable pub numberFrom : ℕ → List ℕ → Numeral
-numberFrom v [] = cond (ltb v (2 ^ 32)) (Numeral.Is v) Numeral.TooLarge
-numberFrom v (b ∷ t) = elim (ltb b 48) [
+unfoldable pub numeralFrom : ℕ → List ℕ → Numeral
+numeralFrom v [] = cond (ltb v (2 ^ 32)) (Numeral.Is v) Numeral.TooLarge
+numeralFrom v (b ∷ t) = elim (ltb b 48) [
   | true ↦ Numeral.NotNumber
-  | false ↦ elim (ltb 57 b) [ true ↦ Numeral.NotNumber | false ↦ numberFrom (v * 10 + (b - 48)) t ]
+  | false ↦ elim (ltb 57 b) [ true ↦ Numeral.NotNumber | false ↦ numeralFrom (v * 10 + (b - 48)) t ]
 ]
 
-unfoldable pub numberOf : List ℕ → Numeral
-numberOf w = numberFrom 0 w
+unfoldable pub numeralOf : List ℕ → Numeral
+numeralOf w = numeralFrom 0 w

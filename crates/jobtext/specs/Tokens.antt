@@ -1,6 +1,6 @@
 -- Tokens: the words of a text, each with the number of its line, counted from 1, and the line on which the text ends.
 -- Words are separated by spaces, tabs, carriage returns and new lines; `#` begins a comment, which ends before the next new line.
-use mathlib.Core.Bool.{Bool, true, false, cond}
+use mathlib.Core.Bool.{true, false, cond}
 use mathlib.Core.List.{List, [], _∷_, _++_}
 use Prim.Native.Nat.{ℕ, suc}
 use lib.Dec.{eqb}
@@ -8,7 +8,7 @@ use lib.ListN.{drop}
 use Rattle.jobtext.specs.declared.Class.{Class}
 
 pub data Tokens : Type 0 where
-  over : ℕ → Tokens
+  textEnd : ℕ → Tokens
   word : ℕ → List ℕ → Tokens → Tokens
 
 -- what a byte is
@@ -24,9 +24,9 @@ pub data Standing : Type 0 where
 
 -- the tokens from there on, on a line
 unfoldable pub scan : Standing → ℕ → List ℕ → Tokens
-scan between l [] = over l
-scan comment l [] = over l
-scan (within w) l [] = word l w (over l)
+scan between l [] = textEnd l
+scan comment l [] = textEnd l
+scan (within w) l [] = word l w (textEnd l)
 scan between l (b ∷ t) = elim (classOf b) [
   | Class.Newline ↦ scan between (suc l) t
   | Class.Hash ↦ scan comment l t

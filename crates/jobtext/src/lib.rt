@@ -2,15 +2,16 @@
 use field::Field;
 use report::put;
 use report::put_number;
+use sizes::JobSizes;
 ghost use mathlib.Core.Path.{_≡_};
 ghost use mathlib.Core.List.{[], _++_};
 ghost use Prim.Native.Nat.{ℕ, _+_, _*_, _-_, _^_, _<_, _≤_};
 ghost use lib.ListN.{length, getD, take, drop};
 ghost use Rattle.report.specs.Wrote.{Room, Wrote};
 ghost use Rattle.jobtext.specs.Tokens.{classOf, scan, comment, within, word, rest};
-ghost use Rattle.jobtext.specs.Number.{numberOf};
-ghost use Rattle.jobtext.specs.Job.{jobOf, count, order, entries, coefficients, below, ended, job};
-ghost use Rattle.jobtext.specs.Message.{wordsOf, message};
+ghost use Rattle.jobtext.specs.Number.{numeralOf};
+ghost use Rattle.jobtext.specs.Job.{jobOfText, fromCount, fromOrder, fromType, fromSeries, isBelow, atEnd, job};
+ghost use Rattle.jobtext.specs.Message.{moduliWords, slipWords, message};
 ghost use Rattle.jobtext.specs.Reading.{Position, Takes, Fills, Follows};
 
 // What a byte is to the scan.
@@ -59,7 +60,7 @@ pub enum Reached {
 }
 
 pub enum Parsed {
-    Job { p: u32, n: u32, s: u32 },
+    Job(JobSizes),
     Wrong { slip: Slip, line: usize },
 }
 
@@ -175,7 +176,7 @@ fn with_digit(value: u64, digit: u8) -> u64
 }
 
 fn read_word(word: &[u8]) -> Numeral
-    ensures { λ r. ⌜ r ≡ numberOf (now (word .entry)) ⌝ }
+    ensures { λ r. ⌜ r ≡ numeralOf (now (word .entry)) ⌝ }
 {
     let mut value: u64 = 0;
     let mut k = 0;
@@ -238,7 +239,7 @@ fn read_numbers(
     out: &mut [u32],
 ) -> Reached
     requires { ⌜ Position (now text) at line ⌝ }
-    ensures { λ r. ⌜ Fills (now (text .entry)) (rest (now (text .entry)) at line) (below limit) slip (now (out .exit)) r ⌝ }
+    ensures { λ r. ⌜ Fills (now (text .entry)) (rest (now (text .entry)) at line) (isBelow limit) slip (now (out .exit)) r ⌝ }
 {
     let mut here = at;
     let mut count = line;
@@ -289,7 +290,7 @@ fn finish(
     series: &mut [u32],
 ) -> Parsed
     requires { ⌜ Position (now text) at line × (length (now d) ≤ length (now types)) × (length (now f) ≤ length (now series)) ⌝ }
-    ensures { λ r. ⌜ Follows (ended (job p n s (now (d .entry)) (now (f .entry))) (rest (now (text .entry)) at line)) r (now (types .entry)) (now (types .exit)) (now (series .entry)) (now (series .exit)) ⌝ }
+    ensures { λ r. ⌜ Follows (atEnd (job p n s (now (d .entry)) (now (f .entry))) (rest (now (text .entry)) at line)) r (now (types .entry)) (now (types .exit)) (now (series .entry)) (now (series .exit)) ⌝ }
 {
     let here = skip(text, at, line);
     let end = here.at;
@@ -304,7 +305,7 @@ fn finish(
     let coefficients = f.len();
     words::copy(d, &mut types[..entries]);
     words::copy(f, &mut series[..coefficients]);
-    Parsed::Job { p, n, s }
+    Parsed::Job(JobSizes { p, n, s })
 }
 
 // After the type: the coefficients, which are kept apart until the text is known to be right.
@@ -320,7 +321,7 @@ fn read_series(
     series: &mut [u32; 2040],
 ) -> Parsed
     requires { ⌜ Position (now text) at line × (n ≤ 8) × (s ≤ 255) × (length (now d) ≤ 8) ⌝ }
-    ensures { λ r. ⌜ Follows (coefficients p n s (now (d .entry)) (rest (now (text .entry)) at line)) r (now (types .entry)) (now (types .exit)) (now (series .entry)) (now (series .exit)) ⌝ }
+    ensures { λ r. ⌜ Follows (fromSeries p n s (now (d .entry)) (rest (now (text .entry)) at line)) r (now (types .entry)) (now (types .exit)) (now (series .entry)) (now (series .exit)) ⌝ }
 {
     let mut f = [0u32; 2040];
     let size = n as usize * s as usize;
@@ -345,7 +346,7 @@ fn read_type(
     series: &mut [u32; 2040],
 ) -> Parsed
     requires { ⌜ Position (now text) at line × (n ≤ 8) × (s ≤ 255) ⌝ }
-    ensures { λ r. ⌜ Follows (entries p n s (rest (now (text .entry)) at line)) r (now (types .entry)) (now (types .exit)) (now (series .entry)) (now (series .exit)) ⌝ }
+    ensures { λ r. ⌜ Follows (fromType p n s (rest (now (text .entry)) at line)) r (now (types .entry)) (now (types .exit)) (now (series .entry)) (now (series .exit)) ⌝ }
 {
     let mut d = [0u32; 8];
     let count = n as usize;
@@ -369,7 +370,7 @@ fn read_order(
     series: &mut [u32; 2040],
 ) -> Parsed
     requires { ⌜ Position (now text) at line × (n ≤ 8) ⌝ }
-    ensures { λ r. ⌜ Follows (order p n (rest (now (text .entry)) at line)) r (now (types .entry)) (now (types .exit)) (now (series .entry)) (now (series .exit)) ⌝ }
+    ensures { λ r. ⌜ Follows (fromOrder p n (rest (now (text .entry)) at line)) r (now (types .entry)) (now (types .exit)) (now (series .entry)) (now (series .exit)) ⌝ }
 {
     match take_number(text, at, line) {
         Next::Number {
@@ -399,7 +400,7 @@ fn read_count(
     series: &mut [u32; 2040],
 ) -> Parsed
     requires { ⌜ Position (now text) at line ⌝ }
-    ensures { λ r. ⌜ Follows (count p (rest (now (text .entry)) at line)) r (now (types .entry)) (now (types .exit)) (now (series .entry)) (now (series .exit)) ⌝ }
+    ensures { λ r. ⌜ Follows (fromCount p (rest (now (text .entry)) at line)) r (now (types .entry)) (now (types .exit)) (now (series .entry)) (now (series .exit)) ⌝ }
 {
     match take_number(text, at, line) {
         Next::Number {
@@ -427,7 +428,7 @@ fn read_count(
 
 // The job of a text: p, n and s are answered, the type and the series written to the lent buffers; or what is wrong and on which line, and nothing is written.
 pub fn parse(text: &[u8], types: &mut [u32; 8], series: &mut [u32; 2040]) -> Parsed
-    ensures { λ r. ⌜ Follows (jobOf (now (text .entry))) r (now (types .entry)) (now (types .exit)) (now (series .entry)) (now (series .exit)) ⌝ }
+    ensures { λ r. ⌜ Follows (jobOfText (now (text .entry))) r (now (types .entry)) (now (types .exit)) (now (series .entry)) (now (series .exit)) ⌝ }
 {
     match take_number(text, 0, 1) {
         Next::Number {
@@ -448,20 +449,25 @@ pub fn parse(text: &[u8], types: &mut [u32; 8], series: &mut [u32; 2040]) -> Par
     }
 }
 
+// Which moduli are admitted.
+fn put_moduli(out: &mut [u8], at: usize) -> usize
+    requires { ⌜ Room moduliWords (now out) at ⌝ }
+    ensures { λ r. ⌜ Wrote moduliWords (now (out .entry)) at (now (out .exit)) r ⌝ }
+{
+    let named = put(b"the modulus p must be a prime from 2 to", out, at);
+    put_number(Field::LARGEST as u64, out, named)
+}
+
 fn put_words(slip: Slip, out: &mut [u8], at: usize) -> usize
-    requires { ⌜ Room (wordsOf slip) (now out) at ⌝ }
-    ensures { λ r. ⌜ Wrote (wordsOf slip) (now (out .entry)) at (now (out .exit)) r ⌝ }
+    requires { ⌜ Room (slipWords slip) (now out) at ⌝ }
+    ensures { λ r. ⌜ Wrote (slipWords slip) (now (out .entry)) at (now (out .exit)) r ⌝ }
 {
     match slip {
         Slip::NotNumber => put(b"this word is no number", out, at),
         Slip::TooLarge => put(b"this number does not fit 32 bits", out, at),
         Slip::EndsEarly => put(b"the text ends too early", out, at),
         Slip::TooMany => put(b"there are more numbers than the job has", out, at),
-        Slip::Modulus => put(
-            b"the modulus p must be a prime from 2 to 2147483647",
-            out,
-            at,
-        ),
+        Slip::Modulus => put_moduli(out, at),
         Slip::Count => put(b"the number of series n must be from 1 to 8", out, at),
         Slip::Order => put(b"the order s must be from 0 to 255", out, at),
         Slip::Entry => put(b"a type entry must be from 0 to 255", out, at),

@@ -1,5 +1,4 @@
 -- Minimal bases by weights, reduction by their rows, and that a reduced one is unique.
---   WeightBasis, ReducedAt, ReducedBasis   the working form of a minimal basis, of reduced, and of both; e i is the pivot degree of row i
 --   basis-ext                              rows and pivots count only below n
 --   reduction, reduction-all               what holds of 0 and goes over to sums with multiples of rows holds of V_s
 --   same-pivots, unique                    a reduced minimal basis is unique
@@ -15,24 +14,11 @@ use Rattle.field.proofs.Prime.{inverse-exists}
 use Rattle.relation.specs.Sum.{sumTo}
 use Rattle.relation.specs.Vector.{Vect, IsVec}
 use Rattle.relation.specs.Relation.{VanishesTo}
-use Rattle.relation.proofs.Vector.{addMultiple, timesXPower, zeroVector, vec-addMultiple, vec-timesXPower, zero-addMultiple, addMultiple-back, timesXPower-at, vanishes-addMultiple, vanishes-term}
-use Rattle.relation.proofs.Weight.{weight, Below, LeadsAt, weight-add, weight-lt, weight-inj, below-timesXPower, vec-below, Top, top, no-lead}
-
--- rows of V_s, row i with its leading position in entry i, at the least degree that V_s has there
-pub record WeightBasis (p n : ℕ) (b : ℕ → ℕ) (F : Vect) (s : ℕ) (Q : ℕ → Vect) (e : ℕ → ℕ) : Type 0 where
-  pub vec : (i : ℕ) → i < n → IsVec p n (Q i)
-  pub mem : (i : ℕ) → i < n → VanishesTo p n F s (Q i)
-  pub lead : (i : ℕ) → i < n → LeadsAt n b (Q i) i (e i)
-  pub least : (i : ℕ) → i < n → (P : Vect) → IsVec p n P → VanishesTo p n F s P → (d : ℕ) → LeadsAt n b P i d → e i ≤ d
-
--- the pivots are 1, and in each column the other rows stay below the pivot
-pub record ReducedAt (n : ℕ) (Q : ℕ → Vect) (e : ℕ → ℕ) : Type 0 where
-  pub monic : (i : ℕ) → i < n → Q i i (e i) ≡ 1
-  pub clear : (l k : ℕ) → l < n → k < n → l ≢ k → (t : ℕ) → e k ≤ t → Q l k t ≡ 0
-
-pub record ReducedBasis (p n : ℕ) (b : ℕ → ℕ) (F : Vect) (s : ℕ) (Q : ℕ → Vect) (e : ℕ → ℕ) : Type 0 where
-  pub basis : WeightBasis p n b F s Q e
-  pub reduced : ReducedAt n Q e
+use Rattle.relation.specs.ReducedBasis.{WeightBasis, ReducedAt, ReducedBasis}
+use Rattle.relation.specs.Operations.{addMultiple}
+use Rattle.relation.proofs.Vector.{timesXPower, zeroVector, vec-addMultiple, vec-timesXPower, zero-addMultiple, addMultiple-back, timesXPower-at, vanishes-addMultiple, vanishes-term}
+use Rattle.relation.specs.Weight.{weight, BelowWeight, LeadsAt}
+use Rattle.relation.proofs.Weight.{weight-add, weight-lt, weight-inj, below-timesXPower, vec-below, Top, top, no-lead}
 
 -- rows and pivots count only below n
 pub basis-ext : {p n : ℕ} {b : ℕ → ℕ} {F : Vect} {s : ℕ} {Q N : ℕ → Vect} {e e′ : ℕ → ℕ} → ((l : ℕ) → l < n → Q l ≡ N l) → ((l : ℕ) → l < n → e l ≡ e′ l)
@@ -64,8 +50,8 @@ pub kill : (p : ℕ) → Prime p → (a q : ℕ) → q < p → q ≢ 0 → (c : 
 kill p pr a q l z = let i = inverse-exists p pr q (omega arith) l in (a * i .0, kill-by p a q (i .0) (omega arith) (i .1 .product))
 
 -- with S leading at the same position, the leading position goes
-pub reduce-one : (p n : ℕ) (b : ℕ → ℕ) (c : ℕ) (S P : Vect) (i k : ℕ) → i < n → Below n b (suc (weight n b i k)) S → Below n b (suc (weight n b i k)) P
-    → (P i k + c * S i k) % p ≡ 0 → Below n b (weight n b i k) (addMultiple p c S P)
+pub reduce-one : (p n : ℕ) (b : ℕ → ℕ) (c : ℕ) (S P : Vect) (i k : ℕ) → i < n → BelowWeight n b (suc (weight n b i k)) S → BelowWeight n b (suc (weight n b i k)) P
+    → (P i k + c * S i k) % p ≡ 0 → BelowWeight n b (weight n b i k) (addMultiple p c S P)
 unfolding addMultiple
 reduce-one p n b c S P i k hi hS hP z j l hj g = elim (ℕ-discrete (weight n b j l) (weight n b i k)) [
   | yes q ↦ let u = weight-inj n b j l i k hj hi q in rw (u .0, u .1) z
@@ -82,11 +68,11 @@ pub record Taken (p n : ℕ) (b : ℕ → ℕ) (F : Vect) (s : ℕ) (Q : ℕ →
   pub at : weight n b row (power + e row) ≡ u
   pub vec : IsVec p n rest
   pub mem : VanishesTo p n F s rest
-  pub below : Below n b u rest
+  pub below : BelowWeight n b u rest
   pub sum : addMultiple p factor (timesXPower power (Q row)) rest ≡ P
 
 module _ {p n : ℕ} {b : ℕ → ℕ} {F : Vect} {s : ℕ} {Q : ℕ → Vect} {e : ℕ → ℕ} (pr : Prime p) (wb : WeightBasis p n b F s Q e) where
-  shifted-below : (l t : ℕ) → l < n → Below n b (suc (weight n b l (t + e l))) (timesXPower t (Q l))
+  shifted-below : (l t : ℕ) → l < n → BelowWeight n b (suc (weight n b l (t + e l))) (timesXPower t (Q l))
   shifted-below l t hl i k hi g = below-timesXPower n b (suc (weight n b l (e l))) t (Q l) (wb .lead l hl .above) i k hi (omega (arith, weight-add n b l (e l) t))
 
   take : (u : ℕ) (P : Vect) → IsVec p n P → VanishesTo p n F s P → (i k t : ℕ) → i < n → weight n b i k ≡ u → LeadsAt n b P i k → t + e i ≡ k
@@ -97,7 +83,7 @@ module _ {p n : ℕ} {b : ℕ → ℕ} {F : Vect} {s : ℕ} {Q : ℕ → Vect} {
       let q : S i k ≡ Q i i (e i) = rw (← te) (timesXPower-at t (Q i) i (e i)) in
       let nz : S i k ≢ 0 = λ z. wb .lead i hi .nonzero (sym q ∙ z) in
       let kl = kill p pr (P i k) (S i k) (vS .small i k) nz in
-      let bS : Below n b (suc (weight n b i k)) S = rw te at (shifted-below i t hi) in
+      let bS : BelowWeight n b (suc (weight n b i k)) S = rw te at (shifted-below i t hi) in
       record {
         row = i;
         power = t;
@@ -120,7 +106,7 @@ module _ {p n : ℕ} {b : ℕ → ℕ} {F : Vect} {s : ℕ} {Q : ℕ → Vect} {
   -- what holds of 0, and goes over to a sum with a multiple of X^t * row l of weight below W, holds of the members of V_s below W
   pub reduction : (M : Vect → Type 0) (W : ℕ) → M zeroVector
       → ((l t c : ℕ) (R : Vect) → l < n → weight n b l (t + e l) < W → IsVec p n R → VanishesTo p n F s R → M R → M (addMultiple p c (timesXPower t (Q l)) R))
-      → (u : ℕ) → u ≤ W → (P : Vect) → IsVec p n P → VanishesTo p n F s P → Below n b u P → M P
+      → (u : ℕ) → u ≤ W → (P : Vect) → IsVec p n P → VanishesTo p n F s P → BelowWeight n b u P → M P
   reduction M W m0 step zero hu P vP mP h =
       let z : (i k : ℕ) → zeroVector i k ≡ P i k = λ i k. elim (decLt i n)
       [ yes hi ↦ sym (h i k hi (omega arith)) | no g ↦ sym (vP .out i k (omega arith)) ] in
@@ -149,8 +135,11 @@ same-pivots {Q} {Q′} {e} {e′} wb wb′ i hi =
     omega arith
 
 -- a reduced minimal basis is unique
-module _ {p n : ℕ} {b : ℕ → ℕ} {F : Vect} {s : ℕ} {Q Q′ : ℕ → Vect} {e e′ : ℕ → ℕ} (pr : Prime p)
+module _ {p n : ℕ} {b : ℕ → ℕ} {F : Vect} {s : ℕ} {Q Q′ : ℕ → Vect} {e e′ : ℕ → ℕ}
     (rb : ReducedBasis p n b F s Q e) (rb′ : ReducedBasis p n b F s Q′ e′) where
+  above-zero : (i : ℕ) → i < n → 0 < p
+  above-zero i hi = omega (arith, rb .basis .vec i hi .small 0 0)
+
   -- the difference of the rows i has no leading position
   diff-diag : (i : ℕ) → i < n → (k : ℕ) → e i ≤ k → addMultiple p (neg p 1) (Q′ i) (Q i) i k ≡ 0
   unfolding addMultiple
@@ -160,14 +149,14 @@ module _ {p n : ℕ} {b : ℕ → ℕ} {F : Vect} {s : ℕ} {Q Q′ : ℕ → Ve
         | yes r ↦
             let u : Q i i k ≡ 1 = rw (← r) (rb .reduced .monic i hi) in
             let v : Q′ i i k ≡ 1 = rw (← r, q) (rb′ .reduced .monic i hi) in
-            rw (u, v, mul-one, add-comm 1 (neg p 1)) (neg-add p 1 (omega arith))
+            rw (u, v, mul-one, add-comm 1 (neg p 1)) (neg-add p 1 (above-zero i hi))
         | no nr ↦ zero-addMultiple p (neg p 1) _ _
             (rb .basis .lead i hi .above i k hi (weight-lt n b i (e i) k (omega arith) (omega arith)))
             (rb′ .basis .lead i hi .above i k hi (weight-lt n b i (e′ i) k (omega arith) (omega arith)))
       ]
 
   diff-vec : (i : ℕ) → i < n → IsVec p n (addMultiple p (neg p 1) (Q′ i) (Q i))
-  diff-vec i hi = vec-addMultiple p n (neg p 1) (Q′ i) (Q i) (omega arith) (rb′ .basis .vec i hi) (rb .basis .vec i hi)
+  diff-vec i hi = vec-addMultiple p n (neg p 1) (Q′ i) (Q i) (above-zero i hi) (rb′ .basis .vec i hi) (rb .basis .vec i hi)
 
   diff-none : (i : ℕ) → i < n → (j k : ℕ) → j < n → ¬ LeadsAt n b (addMultiple p (neg p 1) (Q′ i) (Q i)) j k
   unfolding addMultiple
@@ -186,6 +175,6 @@ module _ {p n : ℕ} {b : ℕ → ℕ} {F : Vect} {s : ℕ} {Q Q′ : ℕ → Ve
   unique i hi =
       let z : (j k : ℕ) → j < n → addMultiple p (neg p 1) (Q′ i) (Q i) j k ≡ 0 = no-lead n b _ _ (vec-below p n b _ (diff-vec i hi)) (diff-none i hi) in
       fun-ext λ j. fun-ext λ k. elim (decLt j n) [
-        | yes hj ↦ diff-zero p _ _ (omega arith) (rb .basis .vec i hi .small j k) (rb′ .basis .vec i hi .small j k) (z j k hj)
+        | yes hj ↦ diff-zero p _ _ (above-zero i hi) (rb .basis .vec i hi .small j k) (rb′ .basis .vec i hi .small j k) (z j k hj)
         | no g ↦ rb .basis .vec i hi .out j k (omega arith) ∙ sym (rb′ .basis .vec i hi .out j k (omega arith))
       ]

@@ -11,7 +11,7 @@ use native.Mathlib.Omega.{arith}
 use lib.IntN.{ℤ}
 use Rattle.relation.specs.Vector.{Vect, IsVec}
 use Rattle.relation.specs.Degree.{Degree, DegreeBelow}
-use Rattle.relation.specs.Integer.{_≤ℤ_}
+use lib.Signed.{_≤ℤ_}
 use Rattle.relation.specs.ShiftedDegree.{shift, ShiftedDegree}
 use Rattle.relation.specs.TypeOf.{TypeOf}
 use Rattle.relation.specs.MinimalBasis.{MinimalBasis}
@@ -20,8 +20,9 @@ use Rattle.relation.specs.Reduced.{Reduced}
 use Rattle.relation.specs.Approximant.{LeastRow}
 use Rattle.relation.proofs.Integer.{le-antisym}
 use Rattle.relation.proofs.Shift.{Offset, shift-le, shift-eq}
-use Rattle.relation.proofs.Weight.{weight, LeadsAt, weight-le, weight-lt, weight→order, order→weight}
-use Rattle.relation.proofs.Basis.{WeightBasis, ReducedAt, ReducedBasis}
+use Rattle.relation.specs.Weight.{weight, LeadsAt}
+use Rattle.relation.proofs.Weight.{weight-le, weight-lt, weight→order, order→weight}
+use Rattle.relation.specs.ReducedBasis.{WeightBasis, ReducedAt, ReducedBasis}
 
 pub degree-unique : {f : ℕ → ℕ} {e k : ℕ} → Degree f e → Degree f k → e ≡ k
 degree-unique {f} {e} {k} a c = elim (decLt e k) [

@@ -1,5 +1,5 @@
 -- A reduced minimal basis exists at every order, and its pivot degrees add up to s - m.
---   find, pick                            the first row by a weight; one of two by a decision
+--   find                                  the first row by a weight
 --   same-while, differ-from               V_(j+1) differs from V_j exactly for j at least m
 --   Solution, solve                       existence, with the sum of the pivot degrees
 --   pivot-sum, criterion                  the sum for any minimal basis, and that it decides
@@ -18,28 +18,19 @@ use Rattle.relation.specs.Product.{dot}
 use Rattle.relation.specs.Vector.{Vect, IsVec}
 use Rattle.relation.specs.Relation.{VanishesTo}
 use Rattle.relation.specs.LeadingZeros.{LeadingZeros}
+use Rattle.relation.specs.Pick.{pick}
+use Rattle.relation.proofs.Pick.{pick-yes, pick-no}
 use Rattle.relation.proofs.Sum.{sum-zero, sum-ext, sum-bump, sum-tight, sum-ge}
 use Rattle.relation.proofs.Product.{dot-vanish}
-use Rattle.relation.proofs.Vector.{timesX, timesXPower, unit, vec-unit, vec-timesXPower, dot-unit, dot-timesXPower, timesXPower-at, vanishes-zero, vanishes-term, vanishes-timesXPower, vanishes-more}
-use Rattle.relation.proofs.Weight.{weight, LeadsAt, weight-lt}
-use Rattle.relation.proofs.Basis.{kill, WeightBasis, ReducedBasis, reduction-all, unique, same-pivots}
+use Rattle.relation.specs.Operations.{timesX, unit}
+use Rattle.relation.proofs.Vector.{timesXPower, vec-unit, vec-timesXPower, dot-unit, dot-timesXPower, timesXPower-at, vanishes-zero, vanishes-term, vanishes-timesXPower, vanishes-more}
+use Rattle.relation.specs.Weight.{weight, LeadsAt}
+use Rattle.relation.proofs.Weight.{weight-lt}
+use Rattle.relation.specs.ReducedBasis.{WeightBasis, ReducedBasis}
+use Rattle.relation.proofs.Basis.{kill, reduction-all, unique, same-pivots}
 use Rattle.relation.proofs.Start.{start}
-use Rattle.relation.proofs.Step.{FirstRow, ClearsColumns, Stepped, clearedRow, movedRow, step-same, step}
-
--- one of two by a decision
-unfoldable pub pick : {A X : Type 0} → Dec A → X → X → X
-pick (yes a) x y = x
-pick (no a) x y = y
-
-pub pick-yes : {A X : Type 0} (d : Dec A) (x y : X) → A → pick d x y ≡ x
-unfolding pick
-pick-yes (yes a) x y h = refl
-pick-yes (no a) x y h = absurd (a h)
-
-pub pick-no : {A X : Type 0} (d : Dec A) (x y : X) → ¬ A → pick d x y ≡ y
-unfolding pick
-pick-no (yes a) x y h = absurd (h a)
-pick-no (no a) x y h = refl
+use Rattle.relation.specs.Moving.{FirstRow, clearedRow, movedRow}
+use Rattle.relation.proofs.Step.{ClearsColumns, Stepped, step-same, step}
 
 -- the first row joins one that is found among the others
 next-first : (N : ℕ) (c v : ℕ → ℕ) (i : ℕ) → FirstRow N c v i → (c N ≢ 0 → v i ≤ v N) → FirstRow (suc N) c v i
@@ -264,18 +255,18 @@ criterion {p} {n} {b} {F} {s} {m} {Q} {e} pr z sum vec mem lead =
     }
 
 -- where two sets of series have the same relations, their reduced minimal bases are equal
-pub relations→same-rows : {p n : ℕ} {b : ℕ → ℕ} {F G : Vect} {s : ℕ} {Q Q′ : ℕ → Vect} {e e′ : ℕ → ℕ} → Prime p
+pub relations→same-rows : {p n : ℕ} {b : ℕ → ℕ} {F G : Vect} {s : ℕ} {Q Q′ : ℕ → Vect} {e e′ : ℕ → ℕ}
     → ReducedBasis p n b F s Q e → ReducedBasis p n b G s Q′ e′
     → ((P : Vect) → IsVec p n P → VanishesTo p n F s P → VanishesTo p n G s P) → ((P : Vect) → IsVec p n P → VanishesTo p n G s P → VanishesTo p n F s P)
     → (i : ℕ) → i < n → Q i ≡ Q′ i
-relations→same-rows {p} {n} {b} {F} {s} {Q′} {e′} pr rb rb′ fg gf =
+relations→same-rows {p} {n} {b} {F} {s} {Q′} {e′} rb rb′ fg gf =
     let wb : WeightBasis p n b F s Q′ e′ = record {
       vec = rb′ .basis .vec;
       mem = λ i hi. gf (Q′ i) (rb′ .basis .vec i hi) (rb′ .basis .mem i hi);
       lead = rb′ .basis .lead;
       least = λ i hi P vP mP. rb′ .basis .least i hi P vP (fg P vP mP);
     } in
-    unique pr rb (record { basis = wb; reduced = rb′ .reduced })
+    unique rb (record { basis = wb; reduced = rb′ .reduced })
 
 -- no pivot is past s, and the entries of column k end at the pivot
 pub pivot-le : {p n : ℕ} {b : ℕ → ℕ} {F : Vect} {s : ℕ} {Q : ℕ → Vect} {e : ℕ → ℕ} → Prime p → WeightBasis p n b F s Q e → (i : ℕ) → i < n → e i ≤ s

@@ -1,6 +1,6 @@
 -- Every member of V_s is a polynomial combination of the rows of a minimal basis, in exactly one way.
---   generated, combination-vanishes   V_s is what the rows generate
---   unique-combination                a vector has one combination
+--   generated, combination-vector, combination-vanishes   V_s is what the rows generate
+--   unique-combination                                    a vector has one combination
 use mathlib.Core.Path.{_≡_, refl, ap, sym, _∙_, fun-ext, subst}
 use mathlib.Core.Logic.{_≢_}
 use Prim.Native.Nat.{ℕ, zero, suc, _+_, _*_, _-_, _%_, _≤_, _<_}
@@ -16,9 +16,12 @@ use Rattle.relation.specs.Relation.{VanishesTo}
 use Rattle.relation.specs.Combination.{combination, Combination}
 use Rattle.relation.proofs.Sum.{sum-ext, sum-differ}
 use Rattle.relation.proofs.Product.{dot-zero}
-use Rattle.relation.proofs.Vector.{addMultiple, timesXPower, zeroVector, unit, vec-zero, vec-unit, vec-addMultiple, vec-timesXPower, dot-addMultiple, dot-timesXPower, timesXPower-entry, vanishes-zero, vanishes-term}
-use Rattle.relation.proofs.Weight.{weight, LeadsAt, weight-add, weight-inj, vec-below}
-use Rattle.relation.proofs.Basis.{WeightBasis, reduction-all}
+use Rattle.relation.specs.Operations.{addMultiple, unit}
+use Rattle.relation.proofs.Vector.{timesXPower, zeroVector, vec-zero, vec-unit, vec-addMultiple, vec-timesXPower, dot-addMultiple, dot-timesXPower, timesXPower-entry, vanishes-zero, vanishes-term}
+use Rattle.relation.specs.Weight.{weight, LeadsAt}
+use Rattle.relation.proofs.Weight.{weight-add, weight-inj, vec-below}
+use Rattle.relation.specs.ReducedBasis.{WeightBasis}
+use Rattle.relation.proofs.Basis.{reduction-all}
 use Rattle.relation.proofs.Start.{start-basis}
 
 combination-zero : (p n : ℕ) (Q : ℕ → Vect) (i k : ℕ) → combination p n zeroVector Q i k ≡ 0
@@ -43,17 +46,26 @@ generated {p} {n} {Q} pr wb = reduction-all pr wb (λ P. Combination p n Q P)
       sum = λ i k. rw (m .sum i k) (sym (combination-step p n Q l t c (m .by) i k hl));
     })
 
--- a combination of members is one: V_0 is everything, and the unit vectors are its basis
-pub combination-vanishes : {p n : ℕ} (F : Vect) (s : ℕ) {Q : ℕ → Vect} → Prime p → ((l : ℕ) → l < n → VanishesTo p n F s (Q l))
-    → (P : Vect) → Combination p n Q P → VanishesTo p n F s P
-combination-vanishes {p} {n} F s {Q} pr mem P c =
-    let h : VanishesTo p n F s (combination p n (c .by) Q) = reduction-all pr (start-basis p n (λ i. 0) F pr)
-    (λ a. VanishesTo p n F s (combination p n a Q))
-    (subst (λ (x : Vect). VanishesTo p n F s x) (fun-ext λ i. fun-ext λ k. sym (combination-zero p n Q i k)) (vanishes-zero p n F s))
-    (λ l t x R hl vR mR m. subst (λ (x : Vect). VanishesTo p n F s x) (fun-ext λ i. fun-ext λ k. sym (combination-step p n Q l t x R i k hl))
-    (vanishes-term p n F s t x (Q l) (combination p n R Q) (mem l hl) m))
+-- what holds of 0, and goes over to a sum with a multiple of X^t * row l, holds of every combination: the unit vectors generate the factors
+combination-closed : {p n : ℕ} {Q : ℕ → Vect} → Prime p → (M : Vect → Type 0) → M zeroVector
+    → ((l t c : ℕ) (R : Vect) → l < n → M R → M (addMultiple p c (timesXPower t (Q l)) R)) → (P : Vect) → Combination p n Q P → M P
+combination-closed {p} {n} {Q} pr M none more P c =
+    let every : M (combination p n (c .by) Q) = reduction-all pr (start-basis p n (λ i. 0) zeroVector pr)
+    (λ a. M (combination p n a Q))
+    (subst M (fun-ext λ i. fun-ext λ k. sym (combination-zero p n Q i k)) none)
+    (λ l t x R hl vR mR m. subst M (fun-ext λ i. fun-ext λ k. sym (combination-step p n Q l t x R i k hl)) (more l t x (combination p n R Q) hl m))
     (c .by) (c .vector) (λ k hk. absurd (omega arith)) in
-    subst (λ (x : Vect). VanishesTo p n F s x) (fun-ext λ i. fun-ext λ k. sym (c .sum i k)) h
+    subst M (fun-ext λ i. fun-ext λ k. sym (c .sum i k)) every
+
+-- a combination of vectors is a vector, and a combination of relations a relation
+module _ {p n : ℕ} {Q : ℕ → Vect} (pr : Prime p) (vec : (l : ℕ) → l < n → IsVec p n (Q l)) (P : Vect) (c : Combination p n Q P) where
+  pub combination-vector : IsVec p n P
+  combination-vector = combination-closed pr (λ R. IsVec p n R) (vec-zero p n (omega arith))
+      (λ l t x R hl m. vec-addMultiple p n x (timesXPower t (Q l)) R (omega arith) (vec-timesXPower p n t (Q l) (omega arith) (vec l hl)) m) P c
+
+  pub combination-vanishes : (F : Vect) (s : ℕ) → ((l : ℕ) → l < n → VanishesTo p n F s (Q l)) → VanishesTo p n F s P
+  combination-vanishes F s mem = combination-closed pr (λ R. VanishesTo p n F s R) (vanishes-zero p n F s)
+      (λ l t x R hl m. vanishes-term p n F s t x (Q l) R (mem l hl) m) P c
 
 -- rows with their leading positions in different entries have one combination for a vector
 module _ {p n : ℕ} {b : ℕ → ℕ} {Q : ℕ → Vect} {e : ℕ → ℕ} (pr : Prime p) (vec : (i : ℕ) → i < n → IsVec p n (Q i))

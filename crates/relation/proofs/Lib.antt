@@ -1,6 +1,7 @@
 -- Theorems about relations. Theorems states what document 01 promises; Pair and Starred follow it. Before them:
--- laws (Sum, Product, Vector, Integer), the working form (Weight, Basis, Start, Generation, Step, Existence),
+-- laws (Pick, Sum, Product, Vector, Integer), the working form (Weight, Basis, Start, Generation, Step, Existence),
 -- and its agreement with the definitions (Shift, Bridge, Shrink, Sigma).
+pub mod Pick
 pub mod Sum
 pub mod Product
 pub mod Vector

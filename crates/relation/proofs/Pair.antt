@@ -5,26 +5,20 @@ use Prim.Native.Nat.{ℕ, zero, suc, _+_, _*_, _-_, _%_, _≤_, _<_}
 use native.Mathlib.Nat.{add-zero, zero-add, mul-zero, zero-mul, mod-eq-of-lt}
 use native.Mathlib.Decide.{ℕ-discrete, decLt}
 use native.Mathlib.Omega.{arith}
-use lib.IntN.{ℤ, pos, _+ℤ_, _-ℤ_, +ℤ-negℤ-cancel}
+use lib.IntN.{pos}
 use Rattle.field.specs.Prime.{Prime}
 use Rattle.field.proofs.Prime.{no-zero-div}
 use Rattle.relation.specs.Sum.{sumTo}
 use Rattle.relation.specs.Product.{conv, dot}
 use Rattle.relation.specs.Vector.{Vect, IsVec}
 use Rattle.relation.specs.Degree.{DegreeBelow}
-use Rattle.relation.specs.Integer.{_≤ℤ_}
+use lib.Signed.{_≤ℤ_}
 use Rattle.relation.specs.Sigma.{sumℤ, sigma}
 use Rattle.relation.specs.Pair.{pairSeries, pairType, Pair}
 use Rattle.relation.proofs.Sum.{sum-single, sum-all-zero}
-use Rattle.relation.proofs.Integer.{pos-le}
+use Rattle.relation.proofs.Integer.{pos-le, minus-pos}
 use Rattle.relation.proofs.Bridge.{degree-exists}
 use Rattle.relation.proofs.Theorems.{approximant-entries, approximant-exists, approximant-unique}
-
--- a difference of naturals that is none below 0
-minus-pos : (a c : ℕ) → c ≤ a → pos a -ℤ pos c ≡ pos (a - c)
-minus-pos a c h =
-    let q : pos a ≡ pos (a - c) +ℤ pos c = ap pos (omega arith) in
-    ap (λ (z : ℤ). z -ℤ pos c) q ∙ +ℤ-negℤ-cancel (pos (a - c)) (pos c)
 
 module _ (k N : ℕ) (one≤k : 1 ≤ k) (k≤N : k ≤ N) where
   type-first : pairType k N 0 ≡ pos (k - 1)
@@ -44,9 +38,9 @@ module _ (k N : ℕ) (one≤k : 1 ≤ k) (k≤N : k ≤ N) where
       let a = approximant-exists p 2 (pairSeries p g) (pairType k N) N pr (omega arith) pair-order in
       (a .0 (a .1) 0, a .0 (a .1) 1, record { rows = a .0; row = a .1; approximant = a .2; first = λ x. refl; second = λ x. refl })
 
-pub pair-unique : {p k N : ℕ} {g r t r′ t′ : ℕ → ℕ} → Prime p → Pair p k N g r t → Pair p k N g r′ t′ → (x : ℕ) → (r x ≡ r′ x) × (t x ≡ t′ x)
-pair-unique pr a b x =
-    let same = approximant-unique pr (a .approximant) (b .approximant) in
+pub pair-unique : {p k N : ℕ} {g r t r′ t′ : ℕ → ℕ} → Pair p k N g r t → Pair p k N g r′ t′ → (x : ℕ) → (r x ≡ r′ x) × (t x ≡ t′ x)
+pair-unique a b x =
+    let same = approximant-unique (a .approximant) (b .approximant) in
     (a .first x ∙ same .1 0 x ∙ sym (b .first x), a .second x ∙ same .1 1 x ∙ sym (b .second x))
 
 -- the coefficient of X^x in -P_1 + P_2 g, where P_2 is zero

@@ -6,19 +6,15 @@ use Prim.Native.Nat.{ℕ, suc, _+_, _-_, _≤_, _<_}
 use native.Mathlib.Omega.{arith}
 use lib.IntN.{ℤ, pos, negsuc, negℤ, _+ℤ_, natAbs, +ℤ-assoc, +ℤ-comm, +ℤ-idl, +ℤ-idr, +ℤ-invl, +ℤ-invr}
 use Rattle.relation.specs.Sum.{sumTo}
-use Rattle.relation.specs.Integer.{_≤ℤ_}
+use lib.Signed.{_≤ℤ_}
 use Rattle.relation.specs.ShiftedDegree.{shift}
+use Rattle.relation.specs.Weight.{less}
 use Rattle.relation.proofs.Sum.{sum-ge}
 use Rattle.relation.proofs.Integer.{pos-inj, le-pos, pos-le, le-add, cancel-add, cancel-le}
 
 -- b i is B - d i
 pub record Offset (n : ℕ) (d : ℕ → ℤ) (B : ℕ) (b : ℕ → ℕ) : Type 0 where
   pub at : (i : ℕ) → i < n → pos (b i) +ℤ d i ≡ pos B
-
--- B - z
-unfoldable pub less : ℕ → ℤ → ℕ
-less B (pos x) = B - x
-less B (negsuc x) = B + suc x
 
 less-is : (B : ℕ) (z : ℤ) → natAbs z ≤ B → pos (less B z) +ℤ z ≡ pos B
 unfolding less

@@ -12,7 +12,7 @@ use Rattle.relation.specs.LeadingZeros.{LeadingZeros}
 use Rattle.relation.specs.Shrink.{Stays, Shrinks, ShrinkCount, none, smaller, same}
 use Rattle.relation.proofs.Vector.{vanishes-less}
 use Rattle.relation.proofs.Existence.{same-while, differ-from, solve, pivot-sum}
-use Rattle.relation.proofs.Basis.{WeightBasis}
+use Rattle.relation.specs.ReducedBasis.{WeightBasis}
 
 -- m exists at every order
 pub zeros-exist : (p n : ℕ) (F : Vect) → Prime p → (s : ℕ) → (m : ℕ) × LeadingZeros p n F s m

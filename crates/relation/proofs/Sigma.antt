@@ -1,10 +1,12 @@
 -- At the order σ of a type some pivot degree is at most d_i: they add up to at most σ, which is less than the sum of the d_i + 1.
 use mathlib.Core.Path.{_≡_, refl, ap, sym, _∙_}
 use mathlib.Core.Logic.{_⊎_, inl, inr}
+use mathlib.Core.List.{[], _∷_}
 use Prim.Native.Nat.{ℕ, zero, suc, _+_, _≤_, _<_}
 use native.Mathlib.Decide.{ℕ-discrete, decLe}
 use native.Mathlib.Omega.{arith}
 use lib.IntN.{ℤ, pos, _+ℤ_, +ℤ-assoc, +ℤ-comm, -ℤ-+ℤ-cancel}
+use Rattle.sizes.specs.Entry.{typeOf}
 use Rattle.relation.specs.Sum.{sumTo}
 use Rattle.relation.specs.Sigma.{sumℤ, sigma}
 use Rattle.relation.proofs.Sum.{sum-add, sum-le}
@@ -46,3 +48,8 @@ module _ {d : ℕ → ℤ} {B : ℕ} {b : ℕ → ℕ} where
         let q : (σ + 1) + sumTo n b ≡ sumTo n (λ i. suc B) = pos-inj _ _ (ap (λ (w : ℤ). w +ℤ pos (sumTo n b)) (sym u) ∙ sum-offset n o) in
         absurd (omega (arith, sum-le n (λ i. suc B) (λ l. e l + b l) z, sum-add n e b))
   ]
+
+-- document 01's examples: (127, 127) has the order 255, (128, 127) the order 256
+pub sigma-worked : (sigma 2 (typeOf (127 ∷ 127 ∷ [])) ≡ pos 255) × (sigma 2 (typeOf (128 ∷ 127 ∷ [])) ≡ pos 256)
+unfolding sigma sumℤ
+sigma-worked = (refl, refl)

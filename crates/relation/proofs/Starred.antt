@@ -13,6 +13,8 @@ use native.Mathlib.Omega.{arith}
 use lib.IntN.{ℤ, pos}
 use lib.ListN.{length, getD, List·getD-eq-default}
 use Rattle.field.specs.Prime.{Prime}
+use Rattle.words.specs.Polynomial.{poly}
+use Rattle.sizes.specs.Entry.{typeOf}
 use Rattle.relation.specs.Sum.{sumTo}
 use Rattle.relation.specs.Product.{conv, dot}
 use Rattle.relation.specs.Vector.{Vect, IsVec}
@@ -23,12 +25,12 @@ use Rattle.relation.specs.Reduced.{Reduced}
 use Rattle.relation.specs.Sigma.{sumℤ, sigma}
 use Rattle.relation.specs.Approximant.{Approximant}
 use Rattle.relation.specs.Pair.{pairSeries, pairType, Pair}
-use Rattle.relation.specs.Starred.{poly, vector, rowsOf, typeOf, Answer, Right, Case, basis, approximant, pair, inverse, Holds, AllHold, starred, c1, c1-answer}
+use Rattle.relation.specs.Starred.{listed, listedRows, StarredAnswer, Right, Case, basis, approximant, pair, inverse, Holds, AllHold, starred, c1, c1-answer}
 use Rattle.relation.proofs.Test.{Test, passed, from, equalList, equal, atMost, below, nonzero, equalℤ, both, either, every, some}
 use Rattle.relation.proofs.Vector.{zeroVector}
-use Rattle.relation.proofs.Weight.{weight, LeadsAt}
-use Rattle.relation.proofs.Shift.{less, base, offsets, offset}
-use Rattle.relation.proofs.Basis.{WeightBasis, ReducedAt}
+use Rattle.relation.specs.Weight.{weight, LeadsAt, less}
+use Rattle.relation.proofs.Shift.{base, offsets, offset}
+use Rattle.relation.specs.ReducedBasis.{WeightBasis, ReducedAt}
 use Rattle.relation.proofs.Existence.{criterion}
 use Rattle.relation.proofs.Bridge.{basis→minimal, basis→reduced, basis→pivot, basis→degree, basis→least}
 use Rattle.relation.proofs.Shrink.{basis→count}
@@ -57,17 +59,19 @@ record Fits (p n w : ℕ) (P : Vect) : Type 0 where
   end : (i k : ℕ) → w ≤ k → P i k ≡ 0
 
 module _ (p n w : ℕ) (l : List (List ℕ)) (hp : 0 < p) (entries : length l ≤ n) (ends : (i : ℕ) → i < n → length (getD l i []) ≤ w)
-    (small : (i : ℕ) → i < n → (k : ℕ) → k < w → vector l i k < p) where
-  past-entries : (i k : ℕ) → n ≤ i → vector l i k ≡ 0
+    (small : (i : ℕ) → i < n → (k : ℕ) → k < w → listed l i k < p) where
+  past-entries : (i k : ℕ) → n ≤ i → listed l i k ≡ 0
+  unfolding poly
   past-entries i k h = rw (List·getD-eq-default l [] {n = i} (omega arith)) refl
 
-  past-end : (i k : ℕ) → w ≤ k → vector l i k ≡ 0
+  past-end : (i k : ℕ) → w ≤ k → listed l i k ≡ 0
+  unfolding poly
   past-end i k h = elim (decLt i n) [
     | yes hi ↦ List·getD-eq-default (getD l i []) 0 {n = k} (omega (arith, ends i hi))
     | no g ↦ past-entries i k (omega arith)
   ]
 
-  fits : Fits p n w (vector l)
+  fits : Fits p n w (listed l)
   fits = record {
     vec = record {
       small = λ i k. elim (decLt i n) [
@@ -84,9 +88,9 @@ module _ (p n w : ℕ) (l : List (List ℕ)) (hp : 0 < p) (entries : length l �
     end = past-end;
   }
 
-abbrev vectorTest : (p n w : ℕ) (l : List (List ℕ)) → Test (Fits p n w (vector l))
+abbrev vectorTest : (p n w : ℕ) (l : List (List ℕ)) → Test (Fits p n w (listed l))
 vectorTest p n w l = from
-    (both (below 0 p) (both (atMost (length l) n) (both (every n (λ i. atMost (length (getD l i [])) w)) (every n (λ i. every w (λ k. below (vector l i k) p))))))
+    (both (below 0 p) (both (atMost (length l) n) (both (every n (λ i. atMost (length (getD l i [])) w)) (every n (λ i. every w (λ k. below (listed l i k) p))))))
     (λ t. fits p n w l (t .0) (t .1 .0) (t .1 .1 .0) (t .1 .1 .1))
 
 -- (i, e) leads a vector that ends at w
@@ -100,10 +104,10 @@ lead-by n b w P i e end nz h = record {
   ];
 }
 
-abbrev leadTest : (p n : ℕ) (b : ℕ → ℕ) (w : ℕ) (l : List (List ℕ)) (i e : ℕ) → Test (Fits p n w (vector l) × LeadsAt n b (vector l) i e)
+abbrev leadTest : (p n : ℕ) (b : ℕ → ℕ) (w : ℕ) (l : List (List ℕ)) (i e : ℕ) → Test (Fits p n w (listed l) × LeadsAt n b (listed l) i e)
 leadTest p n b w l i e = from
-    (both (vectorTest p n w l) (both (nonzero (vector l i e)) (every n (λ j. every w (λ k. either (atMost (weight n b j k) (weight n b i e)) (equal (vector l j k) 0))))))
-    (λ t. (t .0, lead-by n b w (vector l) i e (t .0 .end) (t .1 .0) (t .1 .1)))
+    (both (vectorTest p n w l) (both (nonzero (listed l i e)) (every n (λ j. every w (λ k. either (atMost (weight n b j k) (weight n b i e)) (equal (listed l j k) 0))))))
+    (λ t. (t .0, lead-by n b w (listed l) i e (t .0 .end) (t .1 .0) (t .1 .1)))
 
 zeros-by : (p n : ℕ) (F : Vect) (s m : ℕ) → m ≤ s → ((k : ℕ) → k < m → (i : ℕ) → i < n → F i k % p ≡ 0)
     → (s ≤ m) ⊎ ((i : ℕ) × (i < n) × (F i m % p ≢ 0)) → LeadingZeros p n F s m
@@ -114,21 +118,21 @@ zerosTest p n F s m = from
     (both (atMost m s) (both (every m (λ k. every n (λ i. equal (F i k % p) 0))) (either (atMost s m) (some n (λ i. nonzero (F i m % p))))))
     (λ t. zeros-by p n F s m (t .0) (t .1 .0) (t .1 .1))
 
-abbrev pivotOf : Answer → ℕ → ℕ
+abbrev pivotOf : StarredAnswer → ℕ → ℕ
 pivotOf a i = getD (a .pivots) i 0
 
 -- a prime and a minimal basis, with entries of at most s + 1 coefficients
-record Minimal (p n : ℕ) (F : Vect) (s : ℕ) (d : ℕ → ℤ) (a : Answer) : Type 0 where
+record Minimal (p n : ℕ) (F : Vect) (s : ℕ) (d : ℕ → ℤ) (a : StarredAnswer) : Type 0 where
   prime : Prime p
-  basis : WeightBasis p n (offsets n d) F s (rowsOf (a .rows)) (pivotOf a)
-  ends : (i : ℕ) → i < n → (k t : ℕ) → suc s ≤ t → rowsOf (a .rows) i k t ≡ 0
+  basis : WeightBasis p n (offsets n d) F s (listedRows (a .rows)) (pivotOf a)
+  ends : (i : ℕ) → i < n → (k t : ℕ) → suc s ≤ t → listedRows (a .rows) i k t ≡ 0
 
 -- rows of V_s, row i of type i, and pivot degrees that add up to s - m
-abbrev minimalTest : (p n : ℕ) (F : Vect) (s : ℕ) (d : ℕ → ℤ) (a : Answer) → Test (Minimal p n F s d a)
+abbrev minimalTest : (p n : ℕ) (F : Vect) (s : ℕ) (d : ℕ → ℤ) (a : StarredAnswer) → Test (Minimal p n F s d a)
 minimalTest p n F s d a = from
     (both (primeTest p)
     (both (every n (λ i. leadTest p n (offsets n d) (suc s) (getD (a .rows) i []) i (pivotOf a i)))
-    (both (every n (λ i. every s (λ k. equal (dot n (rowsOf (a .rows) i) F k % p) 0)))
+    (both (every n (λ i. every s (λ k. equal (dot n (listedRows (a .rows) i) F k % p) 0)))
     (both (atMost (sumTo n (pivotOf a)) s) (zerosTest p n F s (s - sumTo n (pivotOf a)))))))
     (λ t. record {
       prime = t .0;
@@ -137,19 +141,19 @@ minimalTest p n F s d a = from
     })
 
 -- what an answer says beside its basis: reduced, the shifted degrees, the least row and the count
-record Rest (p n : ℕ) (d : ℕ → ℤ) (s : ℕ) (a : Answer) : Type 0 where
-  monic : (i : ℕ) → i < n → rowsOf (a .rows) i i (pivotOf a i) ≡ 1
-  clear : (l : ℕ) → l < n → (k : ℕ) → k < n → (l ≡ k) ⊎ ((t : ℕ) → t < suc s → (t < pivotOf a k) ⊎ (rowsOf (a .rows) l k t ≡ 0))
+record Rest (p n : ℕ) (d : ℕ → ℤ) (s : ℕ) (a : StarredAnswer) : Type 0 where
+  monic : (i : ℕ) → i < n → listedRows (a .rows) i i (pivotOf a i) ≡ 1
+  clear : (l : ℕ) → l < n → (k : ℕ) → k < n → (l ≡ k) ⊎ ((t : ℕ) → t < suc s → (t < pivotOf a k) ⊎ (listedRows (a .rows) l k t ≡ 0))
   degrees : (i : ℕ) → i < n → shift d i (pivotOf a i) ≡ getD (a .degrees) i (pos 0)
   named : suc (a .least - 1) ≡ a .least
   row : a .least - 1 < n
   first : (l : ℕ) → l < n → weight n (offsets n d) (a .least - 1) (pivotOf a (a .least - 1)) ≤ weight n (offsets n d) l (pivotOf a l)
   counted : sumTo n (pivotOf a) ≡ a .count
 
-abbrev restTest : (p n : ℕ) (d : ℕ → ℤ) (s : ℕ) (a : Answer) → Test (Rest p n d s a)
+abbrev restTest : (p n : ℕ) (d : ℕ → ℤ) (s : ℕ) (a : StarredAnswer) → Test (Rest p n d s a)
 restTest p n d s a = from
-    (both (every n (λ i. equal (rowsOf (a .rows) i i (pivotOf a i)) 1))
-    (both (every n (λ l. every n (λ k. either (equal l k) (every (suc s) (λ t. either (below t (pivotOf a k)) (equal (rowsOf (a .rows) l k t) 0))))))
+    (both (every n (λ i. equal (listedRows (a .rows) i i (pivotOf a i)) 1))
+    (both (every n (λ l. every n (λ k. either (equal l k) (every (suc s) (λ t. either (below t (pivotOf a k)) (equal (listedRows (a .rows) l k t) 0))))))
     (both (every n (λ i. equalℤ (shift d i (pivotOf a i)) (getD (a .degrees) i (pos 0))))
     (both (equal (suc (a .least - 1)) (a .least))
     (both (below (a .least - 1) n)
@@ -165,8 +169,8 @@ restTest p n d s a = from
       counted = t .1 .1 .1 .1 .1 .1;
     })
 
-module _ {p n : ℕ} {F : Vect} {s : ℕ} {d : ℕ → ℤ} {a : Answer} (mn : Minimal p n F s d a) (rs : Rest p n d s a) where
-  reduced-at : ReducedAt n (rowsOf (a .rows)) (pivotOf a)
+module _ {p n : ℕ} {F : Vect} {s : ℕ} {d : ℕ → ℤ} {a : StarredAnswer} (mn : Minimal p n F s d a) (rs : Rest p n d s a) where
+  reduced-at : ReducedAt n (listedRows (a .rows)) (pivotOf a)
   reduced-at = record {
     monic = rs .monic;
     clear = λ l k hl hk ne t g. elim (rs .clear l hl k hk) [
@@ -189,13 +193,13 @@ module _ {p n : ℕ} {F : Vect} {s : ℕ} {d : ℕ → ℤ} {a : Answer} (mn : M
     count = rw (← rs .counted) (basis→count (mn .prime) (mn .basis));
   }
 
-abbrev answerTest : (p n : ℕ) (F : Vect) (s : ℕ) (d : ℕ → ℤ) (a : Answer) → Test (Right p n F s d a)
+abbrev answerTest : (p n : ℕ) (F : Vect) (s : ℕ) (d : ℕ → ℤ) (a : StarredAnswer) → Test (Right p n F s d a)
 answerTest p n F s d a = from (both (minimalTest p n F s d a) (restTest p n d s a)) (λ t. right (t .0) (t .1))
 
-approximant-by : {p n : ℕ} {F : Vect} {s : ℕ} {d : ℕ → ℤ} {a : Answer} → pos s ≡ sigma n d → (r : Right p n F s d a) → Approximant p n F d s (rowsOf (a .rows)) (r .least .0)
+approximant-by : {p n : ℕ} {F : Vect} {s : ℕ} {d : ℕ → ℤ} {a : StarredAnswer} → pos s ≡ sigma n d → (r : Right p n F s d a) → Approximant p n F d s (listedRows (a .rows)) (r .least .0)
 approximant-by q r = record { order = q; basis = r .basis; reduced = r .reduced; least = r .least .2 }
 
-pair-by : (p k : ℕ) (g r t : List ℕ) (a : Answer) → pos (length g) ≡ sigma 2 (pairType k (length g))
+pair-by : (p k : ℕ) (g r t : List ℕ) (a : StarredAnswer) → pos (length g) ≡ sigma 2 (pairType k (length g))
     → Right p 2 (pairSeries p (poly g)) (length g) (pairType k (length g)) a
     → getD (getD (a .rows) (a .least - 1) []) 0 [] ≡ r → getD (getD (a .rows) (a .least - 1) []) 1 [] ≡ t
     → Prime p × Pair p k (length g) (poly g) (poly r) (poly t)
@@ -203,7 +207,7 @@ pair-by p k g r t a q h er et =
     let is : a .least - 1 ≡ h .least .0 = omega (arith, h .least .1) in (
       h .prime,
       record {
-        rows = rowsOf (a .rows);
+        rows = listedRows (a .rows);
         row = h .least .0;
         approximant = approximant-by q h;
         first = λ x. rw (← er, is);
@@ -213,10 +217,10 @@ pair-by p k g r t a q h er et =
 
 caseTest : (c : Case) → Test (Holds c)
 unfolding Holds
-caseTest (basis j a) = answerTest (j .p) (j .n) (vector (j .series)) (j .s) (typeOf (j .type)) a
+caseTest (basis j a) = answerTest (j .p) (j .n) (listed (j .series)) (j .s) (typeOf (j .type)) a
 caseTest (approximant j a) = from
-    (both (equalℤ (pos (j .s)) (sigma (j .n) (typeOf (j .type)))) (answerTest (j .p) (j .n) (vector (j .series)) (j .s) (typeOf (j .type)) a))
-    (λ t. (t .1 .least .0, t .1 .least .1, approximant-by (t .0) (t .1)))
+    (both (equalℤ (pos (j .s)) (sigma (j .n) (typeOf (j .type)))) (answerTest (j .p) (j .n) (listed (j .series)) (j .s) (typeOf (j .type)) a))
+    (λ t. (t .1, approximant-by (t .0) (t .1)))
 caseTest (pair p k g r t a) = from
     (both (equalℤ (pos (length g)) (sigma 2 (pairType k (length g))))
     (both (answerTest p 2 (pairSeries p (poly g)) (length g) (pairType k (length g)) a)
@@ -232,7 +236,7 @@ tableTest (c ∷ cs) = both (caseTest c) (tableTest cs)
 
 -- every starred case holds
 pub starred-hold : AllHold starred
-unfolding tableTest caseTest sumTo conv dot weight less base offsets sumℤ sigma pairSeries pairType
+unfolding tableTest caseTest poly sumTo conv dot weight less base offsets sumℤ sigma pairSeries pairType
 starred-hold = tableTest starred .shows tt
 
 -- a buffer lent with zeros holds no basis, whatever the job
@@ -241,16 +245,16 @@ zero-rows-no-basis hn mb = let w = mb .nonzero 0 hn in w .3 refl
 
 -- the identity rows are no basis of C1: (1, 0) is no relation
 abbrev identityRows : ℕ → Vect
-identityRows = rowsOf (((1 ∷ []) ∷ (0 ∷ []) ∷ []) ∷ ((0 ∷ []) ∷ (1 ∷ []) ∷ []) ∷ [])
+identityRows = listedRows (((1 ∷ []) ∷ (0 ∷ []) ∷ []) ∷ ((0 ∷ []) ∷ (1 ∷ []) ∷ []) ∷ [])
 
-pub identity-no-basis : ¬ MinimalBasis 7 2 (vector (c1 .series)) 3 (typeOf (c1 .type)) identityRows
-unfolding sumTo conv dot
+pub identity-no-basis : ¬ MinimalBasis 7 2 (listed (c1 .series)) 3 (typeOf (c1 .type)) identityRows
+unfolding poly sumTo conv dot
 identity-no-basis mb =
     let q : _≡_ {A = ℕ} 6 0 = mb .member 0 (omega arith) .vanishes 0 (omega arith) in
     omega arith
 
 -- in C1 the row (0 1, 0 1 6) is minimal too, but not reduced
-abbrev unreduced : Answer
+abbrev unreduced : StarredAnswer
 unreduced = record {
   rows = ((0 ∷ 1 ∷ []) ∷ (0 ∷ 1 ∷ 6 ∷ []) ∷ []) ∷ ((6 ∷ []) ∷ (6 ∷ 1 ∷ 1 ∷ []) ∷ []) ∷ [];
   pivots = c1-answer .pivots;
@@ -259,11 +263,12 @@ unreduced = record {
   count = c1-answer .count;
 }
 
-unreduced-minimal : Minimal 7 2 (vector (c1 .series)) 3 (typeOf (c1 .type)) unreduced
-unfolding sumTo conv dot weight less base offsets
-unreduced-minimal = minimalTest 7 2 (vector (c1 .series)) 3 (typeOf (c1 .type)) unreduced .shows tt
+unreduced-minimal : Minimal 7 2 (listed (c1 .series)) 3 (typeOf (c1 .type)) unreduced
+unfolding poly sumTo conv dot weight less base offsets
+unreduced-minimal = minimalTest 7 2 (listed (c1 .series)) 3 (typeOf (c1 .type)) unreduced .shows tt
 
-pub minimal-not-reduced : MinimalBasis 7 2 (vector (c1 .series)) 3 (typeOf (c1 .type)) (rowsOf (unreduced .rows)) × (¬ Reduced 2 (rowsOf (unreduced .rows)))
+pub minimal-not-reduced : MinimalBasis 7 2 (listed (c1 .series)) 3 (typeOf (c1 .type)) (listedRows (unreduced .rows)) × (¬ Reduced 2 (listedRows (unreduced .rows)))
+unfolding poly
 minimal-not-reduced = (
   basis→minimal (offset 2 (typeOf (c1 .type))) (unreduced-minimal .basis),
   λ rd.

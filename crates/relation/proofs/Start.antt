@@ -5,9 +5,10 @@ use native.Mathlib.Decide.{ℕ-discrete}
 use native.Mathlib.Omega.{arith}
 use Rattle.field.specs.Prime.{Prime}
 use Rattle.relation.specs.Vector.{Vect}
-use Rattle.relation.proofs.Vector.{unit, unit-one, unit-high, unit-other, vec-unit}
-use Rattle.relation.proofs.Weight.{weight}
-use Rattle.relation.proofs.Basis.{WeightBasis, ReducedBasis}
+use Rattle.relation.specs.Operations.{unit}
+use Rattle.relation.proofs.Vector.{unit-one, unit-high, unit-other, vec-unit}
+use Rattle.relation.specs.Weight.{weight}
+use Rattle.relation.specs.ReducedBasis.{WeightBasis, ReducedBasis}
 
 module _ (p n : ℕ) (b : ℕ → ℕ) (F : Vect) (pr : Prime p) where
   pub start-basis : WeightBasis p n b F 0 unit (λ i. 0)

@@ -2,9 +2,8 @@
 -- c_l is the coefficient of X^j in the sum of the Q_l f. Where all c_l are 0 nothing changes. Otherwise let i be the first row by weight with
 -- c_i not 0: every other row takes a multiple of row i, so that its c vanishes, and row i becomes X times itself, less multiples
 -- of the new rows, so that it is reduced again. Any factors that do this serve.
---   FirstRow                        the row that moves
 --   ClearsOrder, ClearsColumns      what the factors have to do
---   clearedRow, movedRow, Stepped   the new rows
+--   Stepped                         the new rows and pivots
 --   step-same, step                 the theorem
 --   cleared-*, moved-*              what a loop that works in place needs on the way
 use mathlib.Core.Path.{_≡_, refl, sym, _∙_, subst, subst₂}
@@ -20,16 +19,14 @@ use Rattle.relation.specs.Sum.{sumTo}
 use Rattle.relation.specs.Product.{dot}
 use Rattle.relation.specs.Vector.{Vect, IsVec}
 use Rattle.relation.specs.Relation.{VanishesTo}
+use Rattle.relation.specs.Moving.{FirstRow, clearedRow, movedRow}
 use Rattle.relation.proofs.Sum.{sum-single, sum-all-zero, sum-cong, sum-zero}
-use Rattle.relation.proofs.Vector.{addMultiple, addMultiples, timesX, vec-addMultiple, vec-timesX, zero-addMultiple, dot-addMultiple, vanishes-zero, vanishes-addMultiple, vanishes-timesX, vanishes-term, vanishes-more, vanishes-less, addMultiples-keep}
-use Rattle.relation.proofs.Weight.{weight, Below, LeadsAt, weight-suc, weight-lt, weight-le, below-timesX}
-use Rattle.relation.proofs.Basis.{WeightBasis, ReducedAt, ReducedBasis, reduction, reduce-one}
-
--- of the numbers below n at which c is not 0, i has the least v
-pub record FirstRow (n : ℕ) (c v : ℕ → ℕ) (i : ℕ) : Type 0 where
-  pub row< : i < n
-  pub nonzero : c i ≢ 0
-  pub least : (l : ℕ) → l < n → c l ≢ 0 → v i ≤ v l
+use Rattle.relation.specs.Operations.{addMultiple, addMultiples, timesX}
+use Rattle.relation.proofs.Vector.{vec-addMultiple, vec-timesX, zero-addMultiple, dot-addMultiple, vanishes-zero, vanishes-addMultiple, vanishes-timesX, vanishes-term, vanishes-more, vanishes-less, addMultiples-keep}
+use Rattle.relation.specs.Weight.{weight, BelowWeight, LeadsAt}
+use Rattle.relation.proofs.Weight.{weight-suc, weight-lt, weight-le, below-timesX}
+use Rattle.relation.specs.ReducedBasis.{WeightBasis, ReducedAt, ReducedBasis}
+use Rattle.relation.proofs.Basis.{reduction, reduce-one}
 
 -- m l times row i takes the coefficient of X^j away from row l
 pub record ClearsOrder (p n : ℕ) (F : Vect) (j : ℕ) (Q : ℕ → Vect) (i : ℕ) (m : ℕ → ℕ) : Type 0 where
@@ -39,13 +36,6 @@ pub record ClearsOrder (p n : ℕ) (F : Vect) (j : ℕ) (Q : ℕ → Vect) (i : 
 pub record ClearsColumns (p n : ℕ) (Q : ℕ → Vect) (e : ℕ → ℕ) (i : ℕ) (a : ℕ → ℕ) : Type 0 where
   pub own : a i ≡ 0
   pub others : (l : ℕ) → l < n → l ≢ i → (timesX (Q i) l (e l) + a l) % p ≡ 0
-
--- the new row l, and the new row i
-abbrev pub clearedRow : ℕ → (ℕ → ℕ) → (ℕ → Vect) → ℕ → ℕ → Vect
-clearedRow p m Q i l = addMultiple p (m l) (Q i) (Q l)
-
-abbrev pub movedRow : ℕ → ℕ → (ℕ → ℕ) → (ℕ → ℕ) → (ℕ → Vect) → ℕ → Vect
-movedRow p n m a Q i = addMultiples p n a (clearedRow p m Q i) (timesX (Q i))
 
 -- N and e′ are the rows and pivots after the step
 pub record Stepped (p n : ℕ) (m a : ℕ → ℕ) (Q : ℕ → Vect) (e : ℕ → ℕ) (i : ℕ) (N : ℕ → Vect) (e′ : ℕ → ℕ) : Type 0 where
@@ -79,7 +69,7 @@ module _ {p n : ℕ} {b : ℕ → ℕ} {F : Vect} {j : ℕ} {Q : ℕ → Vect} {
     ])
 
     -- so is each member of V j below the pivot of row i
-    low-rel : (P : Vect) → IsVec p n P → VanishesTo p n F j P → Below n b (weight n b i (e i)) P → VanishesTo p n F (suc j) P
+    low-rel : (P : Vect) → IsVec p n P → VanishesTo p n F j P → BelowWeight n b (weight n b i (e i)) P → VanishesTo p n F (suc j) P
     low-rel P vP hP h = reduction pr (rb .basis) (λ P. VanishesTo p n F (suc j) P) (weight n b i (e i)) (vanishes-zero p n F (suc j))
         (λ l t c R hl lt vR mR m. vanishes-term p n F (suc j) t c (Q l) R (low-row l hl (omega (arith, weight-le n b l (e l) (t + e l) (omega arith)))) m)
         (weight n b i (e i)) (omega arith) P vP hP h
@@ -93,7 +83,7 @@ module _ {p n : ℕ} {b : ℕ → ℕ} {F : Vect} {j : ℕ} {Q : ℕ → Vect} {
         let D : Vect = addMultiple p c (Q i) P in
         let vD : IsVec p n D = vec-addMultiple p n c (Q i) P (omega arith) (rb .basis .vec i hi) vP in
         let rD : VanishesTo p n F j D = vanishes-addMultiple p n F j c (Q i) P (rb .basis .mem i hi) (vanishes-less p n F j P hP) in
-        let bD : Below n b (weight n b i (e i)) D = reduce-one p n b c (Q i) P i (e i) hi (rb .basis .lead i hi .above) (ld .above) q in
+        let bD : BelowWeight n b (weight n b i (e i)) D = reduce-one p n b c (Q i) P i (e i) hi (rb .basis .lead i hi .above) (ld .above) q in
         let z : dot n D F j % p ≡ 0 = low-rel D vD rD bD j (omega arith) in
         let u : (dot n P F j % p + c * dot n (Q i) F j) % p ≡ 0 = mod-add-mod _ p _ ∙ sym (dot-addMultiple p n c (Q i) P F j) ∙ z in
         let v : (c * dot n (Q i) F j) % p ≡ 0 = rw (hP j (omega arith), zero-add) at u in
@@ -123,7 +113,7 @@ module _ {p n : ℕ} {b : ℕ → ℕ} {F : Vect} {j : ℕ} {Q : ℕ → Vect} {
           let v : (m l * dot n (Q i) F j) % p ≡ 0 = rw (z, zero-add) at u in
           no-zero-div p pr (dot n (Q i) F j % p) (m l) (mod-lt _ (omega arith)) (mod-mul-right p (m l) _ ∙ v) (fr .nonzero)
 
-      cleared-above : (l : ℕ) → l < n → Below n b (suc (weight n b l (e l))) (R l)
+      cleared-above : (l : ℕ) → l < n → BelowWeight n b (suc (weight n b l (e l))) (R l)
       unfolding addMultiple
       cleared-above l hl k t hk g = elim (ℕ-discrete (dot n (Q l) F j % p) 0) [
         | yes z ↦ drop-mult p (Q l k t) (m l) (Q i k t) (m-zero l hl z) ∙ rw (rb .basis .lead l hl .above k t hk g) (zero-mod p)
@@ -162,7 +152,7 @@ module _ {p n : ℕ} {b : ℕ → ℕ} {F : Vect} {j : ℕ} {Q : ℕ → Vect} {
             ]) in
             rw (rb .reduced .monic i hi, z) (mod-eq-of-lt (pr .above-one))
 
-        shifted-above : Below n b (suc (weight n b i (suc (e i)))) (timesX (Q i))
+        shifted-above : BelowWeight n b (suc (weight n b i (suc (e i)))) (timesX (Q i))
         shifted-above k t hk g = below-timesX n b (suc (weight n b i (e i))) (Q i) (rb .basis .lead i hi .above) k t hk (omega (arith, weight-suc n b i (e i)))
 
         moved-term : (k t : ℕ) → k < n → weight n b i (suc (e i)) < weight n b k t → (l : ℕ) → l < n → (a l * R l k t) % p ≡ 0
@@ -174,7 +164,7 @@ module _ {p n : ℕ} {b : ℕ → ℕ} {F : Vect} {j : ℕ} {Q : ℕ → Vect} {
           ]
         ]
 
-        moved-above : Below n b (suc (weight n b i (suc (e i)))) T
+        moved-above : BelowWeight n b (suc (weight n b i (suc (e i)))) T
         unfolding addMultiples
         moved-above k t hk g =
             let z : timesX (Q i) k t ≡ 0 = shifted-above k t hk g in

@@ -1,4 +1,5 @@
 -- The theorems about relations, in the words of document 01: for every prime p, number of series n, series F, order s and type d.
+--   0  order-zero, unit-basis, type-exists, shifted-exists
 --   1  members-are-combinations, one-combination
 --   2  reduced-basis-unique, same-relations-same-rows
 --   3  step-unchanged, step-moves, reduced-basis-exists
@@ -19,7 +20,7 @@ use Rattle.relation.specs.Product.{dot}
 use Rattle.relation.specs.Vector.{Vect, IsVec, Nonzero}
 use Rattle.relation.specs.Relation.{VanishesTo, Relation}
 use Rattle.relation.specs.Degree.{Degree}
-use Rattle.relation.specs.Integer.{_≤ℤ_}
+use lib.Signed.{_≤ℤ_}
 use Rattle.relation.specs.ShiftedDegree.{shift, ShiftedDegree}
 use Rattle.relation.specs.TypeOf.{TypeOf}
 use Rattle.relation.specs.MinimalBasis.{MinimalBasis}
@@ -30,12 +31,18 @@ use Rattle.relation.specs.Shrink.{ShrinkCount}
 use Rattle.relation.specs.Sigma.{sigma}
 use Rattle.relation.specs.Approximant.{LeastRow, Approximant}
 use Rattle.relation.specs.Combination.{Combination}
+use Rattle.relation.specs.SameRelations.{SameRelations}
 use Rattle.relation.proofs.Integer.{le-add, le-pos, cancel-le, le-trans, le-antisym}
 use Rattle.relation.proofs.Shift.{Offset, offset, base, offsets, shift-le, shift-eq, lifted}
-use Rattle.relation.proofs.Weight.{weight, weight-inj, vec-below, lead-exists, weight→order, order→weight}
-use Rattle.relation.proofs.Basis.{same-pivots, WeightBasis}
-use Rattle.relation.proofs.Generation.{generated, combination-vanishes, unique-combination}
-use Rattle.relation.proofs.Step.{FirstRow, ClearsOrder, ClearsColumns, Stepped, step-same, step}
+use Rattle.relation.specs.Weight.{weight}
+use Rattle.relation.proofs.Weight.{weight-inj, vec-below, lead-exists, weight→order, order→weight}
+use Rattle.relation.specs.ReducedBasis.{WeightBasis}
+use Rattle.relation.proofs.Basis.{same-pivots}
+use Rattle.relation.proofs.Start.{start}
+use Rattle.relation.proofs.Generation.{generated, combination-vector, combination-vanishes, unique-combination}
+use Rattle.relation.specs.Operations.{unit}
+use Rattle.relation.specs.Moving.{FirstRow}
+use Rattle.relation.proofs.Step.{ClearsOrder, ClearsColumns, Stepped, step-same, step}
 use Rattle.relation.proofs.Existence.{find, solve, criterion, pivot-sum, rows→relations, relations→same-rows}
 use Rattle.relation.proofs.Bridge.{shifted-unique, leads→type, type→leads, basis→minimal, basis→reduced, basis→pivot, basis→degree, basis→least, least→basis, minimal→basis, reduced→basis, pivots-exist}
 use Rattle.relation.proofs.Shrink.{zeros-exist, basis→count}
@@ -44,6 +51,22 @@ use Rattle.relation.proofs.Sigma.{small-pivot}
 -- V_0 is everything
 pub order-zero : {p n : ℕ} {F P : Vect} → IsVec p n P → Relation p n F 0 P
 order-zero vP = record { vector = vP; vanishes = λ k hk. absurd (omega arith) }
+
+-- and the unit vectors are its reduced minimal basis, for every type
+pub unit-basis : (p n : ℕ) (F : Vect) (d : ℕ → ℤ) → Prime p → MinimalBasis p n F 0 d unit × Reduced n unit
+unit-basis p n F d pr =
+    let s = start p n (offsets n d) F pr in
+    (basis→minimal (offset n d) (s .basis), basis→reduced s)
+
+-- every nonzero vector has a type, and with it a shifted degree
+pub type-exists : {p n : ℕ} (d : ℕ → ℤ) {P : Vect} → IsVec p n P → Nonzero n P → (i : ℕ) × TypeOf n d P i
+type-exists {p} {n} d {P} vP nz =
+    let b : ℕ → ℕ = offsets n d in
+    let t = lead-exists n b _ P (vec-below p n b P vP) (nz .0) (nz .1) (nz .2) (nz .3) in
+    (t .0, leads→type (offset n d) (t .2) (t .3))
+
+pub shifted-exists : {p n : ℕ} (d : ℕ → ℤ) {P : Vect} → IsVec p n P → Nonzero n P → (δ : ℤ) × ShiftedDegree n d P δ
+shifted-exists d vP nz = let t = type-exists d vP nz in (t .1 .δ, t .1 .degree)
 
 -- a minimal basis in the working form, with its pivot degrees
 working : {p n : ℕ} {F : Vect} {s : ℕ} {d : ℕ → ℤ} {Q : ℕ → Vect} → MinimalBasis p n F s d Q → (e : ℕ → ℕ) × WeightBasis p n (offsets n d) F s Q e
@@ -55,10 +78,12 @@ SameRows n Q Q′ = (i : ℕ) → i < n → (k t : ℕ) → Q i k t ≡ Q′ i k
 
 module _ {p n : ℕ} {F : Vect} {s : ℕ} {d : ℕ → ℤ} {Q : ℕ → Vect} (pr : Prime p) (mb : MinimalBasis p n F s d Q) where
   -- V_s is what the rows generate
-  pub members-are-combinations : (P : Vect) → IsVec p n P → Relation p n F s P ↔ Combination p n Q P
-  members-are-combinations P vP = (
-    λ r. generated pr (working mb .1) P vP (r .vanishes),
-    λ c. record { vector = vP; vanishes = combination-vanishes F s pr (λ l hl. mb .member l hl .vanishes) P c },
+  pub members-are-combinations : (P : Vect) → Relation p n F s P ↔ Combination p n Q P
+  members-are-combinations P = (
+    λ r. generated pr (working mb .1) P (r .vector) (r .vanishes),
+    λ c.
+        let vec : (l : ℕ) → l < n → IsVec p n (Q l) = λ l hl. mb .member l hl .vector in
+        record { vector = combination-vector pr vec P c; vanishes = combination-vanishes pr vec P c F s (λ l hl. mb .member l hl .vanishes) },
   )
 
   -- in exactly one way
@@ -75,20 +100,28 @@ module _ {p n : ℕ} {F : Vect} {s : ℕ} {d : ℕ → ℤ} {Q : ℕ → Vect} (
   pub basis-shrink-count : (e : ℕ → ℕ) → ((i : ℕ) → i < n → Pivot Q i (e i)) → ShrinkCount p n F s (sumTo n e)
   basis-shrink-count e pv = basis→count pr (minimal→basis (offset n d) mb pv)
 
+-- equal relations mean equal rows, and one V_s has one reduced minimal basis
+pub same-rows : {p n : ℕ} {F G : Vect} {s : ℕ} {d : ℕ → ℤ} {Q Q′ : ℕ → Vect}
+    → MinimalBasis p n F s d Q → Reduced n Q → MinimalBasis p n G s d Q′ → Reduced n Q′ → SameRelations p n F G s → SameRows n Q Q′
+same-rows {p} {n} {F} {G} {s} {d} {Q} {Q′} mb rd mb′ rd′ h i hi k t =
+    let e = pivots-exist mb in
+    let e′ = pivots-exist mb′ in
+    let same : Q i ≡ Q′ i = relations→same-rows (reduced→basis (offset n d) mb rd (e .1)) (reduced→basis (offset n d) mb′ rd′ (e′ .1))
+    (λ P vP v. h P .0 (record { vector = vP; vanishes = v }) .vanishes) (λ P vP v. h P .1 (record { vector = vP; vanishes = v }) .vanishes) i hi in
+    ap (λ (R : Vect). R k t) same
+
+pub reduced-basis-unique : {p n : ℕ} {F : Vect} {s : ℕ} {d : ℕ → ℤ} {Q Q′ : ℕ → Vect}
+    → MinimalBasis p n F s d Q → Reduced n Q → MinimalBasis p n F s d Q′ → Reduced n Q′ → SameRows n Q Q′
+reduced-basis-unique mb rd mb′ rd′ = same-rows mb rd mb′ rd′ (λ P. ((λ r. r), λ r. r))
+
 pub same-relations-same-rows : {p n : ℕ} {F G : Vect} {s : ℕ} {d : ℕ → ℤ} {Q Q′ : ℕ → Vect} → Prime p
-    → MinimalBasis p n F s d Q → Reduced n Q → MinimalBasis p n G s d Q′ → Reduced n Q′
-    → SameRows n Q Q′ ↔ ((P : Vect) → Relation p n F s P ↔ Relation p n G s P)
+    → MinimalBasis p n F s d Q → Reduced n Q → MinimalBasis p n G s d Q′ → Reduced n Q′ → SameRows n Q Q′ ↔ SameRelations p n F G s
 same-relations-same-rows {p} {n} {F} {G} {s} {d} {Q} {Q′} pr mb rd mb′ rd′ = (
   λ q P. (
     over F G Q Q′ mb mb′ q P,
     over G F Q′ Q mb′ mb (λ i hi k t. sym (q i hi k t)) P,
   ),
-  λ h i hi k t.
-      let e = pivots-exist mb in
-      let e′ = pivots-exist mb′ in
-      let same : Q i ≡ Q′ i = relations→same-rows pr (reduced→basis (offset n d) mb rd (e .1)) (reduced→basis (offset n d) mb′ rd′ (e′ .1))
-      (λ P vP v. h P .0 (record { vector = vP; vanishes = v }) .vanishes) (λ P vP v. h P .1 (record { vector = vP; vanishes = v }) .vanishes) i hi in
-      ap (λ (R : Vect). R k t) same,
+  same-rows mb rd mb′ rd′,
 )
   where
     over : (F G : Vect) (Q Q′ : ℕ → Vect) → MinimalBasis p n F s d Q → MinimalBasis p n G s d Q′ → SameRows n Q Q′ → (P : Vect) → Relation p n F s P → Relation p n G s P
@@ -97,10 +130,6 @@ same-relations-same-rows {p} {n} {F} {G} {s} {d} {Q} {Q′} pr mb rd mb′ rd′
       vanishes = rows→relations pr (working mb .1) G s
           (λ i hi. subst (λ (R : Vect). VanishesTo p n G s R) (fun-ext λ k. fun-ext λ t. sym (q i hi k t)) (mb′ .member i hi .vanishes)) P (r .vector) (r .vanishes);
     }
-
-pub reduced-basis-unique : {p n : ℕ} {F : Vect} {s : ℕ} {d : ℕ → ℤ} {Q Q′ : ℕ → Vect} → Prime p
-    → MinimalBasis p n F s d Q → Reduced n Q → MinimalBasis p n F s d Q′ → Reduced n Q′ → SameRows n Q Q′
-reduced-basis-unique pr mb rd mb′ rd′ = same-relations-same-rows pr mb rd mb′ rd′ .1 (λ P. ((λ r. r), λ r. r))
 
 -- the row that moves from order j to j + 1: of those with a coefficient c_l that is not 0, the least by shifted degree e_l - d_l, then by number
 pub record FirstByDegree (n : ℕ) (d : ℕ → ℤ) (e c : ℕ → ℕ) (i : ℕ) : Type 0 where
@@ -209,11 +238,11 @@ module _ {p n : ℕ} {F : Vect} {d : ℕ → ℤ} {σ : ℕ} {Q : ℕ → Vect} 
   pub approximant-least : (P : Vect) → Relation p n F σ P → Nonzero n P → (ε : ℤ) → ShiftedDegree n d P ε → x .least .δ ≤ℤ ε
   approximant-least P r nz ε dP =
       let w = working (x .basis) in
-      let t = lead-exists n (offsets n d) _ P (vec-below p n (offsets n d) P (r .vector)) (nz .0) (nz .1) (nz .2) (nz .3) in
-      let ty : TypeOf n d P (t .0) = leads→type (offset n d) (t .2) (t .3) in
-      let row : ShiftedDegree n d (Q (t .0)) (shift d (t .0) (w .0 (t .0))) = basis→degree (offset n d) (w .1) (t .0) (t .2) in
-      le-trans (x .least .δ) (shift d (t .0) (w .0 (t .0))) ε (x .least .least (t .0) _ (t .2) row)
-      (x .basis .least (t .0) (t .2) P r nz ty _ ε row dP)
+      let t = type-exists d (r .vector) nz in
+      let ht : t .0 < n = t .1 .index in
+      let row : ShiftedDegree n d (Q (t .0)) (shift d (t .0) (w .0 (t .0))) = basis→degree (offset n d) (w .1) (t .0) ht in
+      le-trans (x .least .δ) (shift d (t .0) (w .0 (t .0))) ε (x .least .least (t .0) _ ht row)
+      (x .basis .least (t .0) ht P r nz (t .1) _ ε row dP)
 
 pub approximant-exists : (p n : ℕ) (F : Vect) (d : ℕ → ℤ) (σ : ℕ) → Prime p → 0 < n → pos σ ≡ sigma n d → (Q : ℕ → Vect) × (i : ℕ) × Approximant p n F d σ Q i
 approximant-exists p n F d σ pr hn order =
@@ -221,9 +250,9 @@ approximant-exists p n F d σ pr hn order =
     let i = least-exists hn (Q .1) in
     (Q .0, i .0, record { order = order; basis = Q .1; reduced = Q .2; least = i .1 })
 
-pub approximant-unique : {p n : ℕ} {F : Vect} {d : ℕ → ℤ} {σ : ℕ} {Q Q′ : ℕ → Vect} {i j : ℕ} → Prime p
+pub approximant-unique : {p n : ℕ} {F : Vect} {d : ℕ → ℤ} {σ : ℕ} {Q Q′ : ℕ → Vect} {i j : ℕ}
     → Approximant p n F d σ Q i → Approximant p n F d σ Q′ j → (i ≡ j) × ((k t : ℕ) → Q i k t ≡ Q′ j k t)
-approximant-unique {Q} {Q′} {i} {j} pr a c =
+approximant-unique {Q} {Q′} {i} {j} a c =
     let q : i ≡ j = least-row-same (a .basis) (c .basis) (a .least) (c .least) in
-    let same = reduced-basis-unique pr (a .basis) (a .reduced) (c .basis) (c .reduced) in
+    let same = reduced-basis-unique (a .basis) (a .reduced) (c .basis) (c .reduced) in
     (q, λ k t. same i (a .least .row) k t ∙ ap (λ (l : ℕ). Q′ l k t) q)

@@ -1,8 +1,6 @@
 -- What is done with vectors: a multiple of one is added to another, and one is multiplied by a power of X.
 -- Each keeps vectors and V_s. A difference adds `neg p c` times.
---   addMultiple, addMultiples   P + c * S, and P + the sum of the a_l * R_l
---   timesX, timesXPower         X * P, X^t * P
---   zeroVector, unit            the vectors 0 and e_l
+--   timesXPower, zeroVector   X^t * P, and the vector 0; the other operations are definitions (specs/Operations)
 use mathlib.Core.Path.{_≡_, refl, ap, sym, _∙_, fun-ext, subst}
 use mathlib.Core.Logic.{_≢_}
 use Prim.Native.Nat.{ℕ, zero, suc, _+_, _*_, _%_, _≤_, _<_}
@@ -14,21 +12,11 @@ use Rattle.relation.specs.Sum.{sumTo}
 use Rattle.relation.specs.Product.{conv, dot}
 use Rattle.relation.specs.Vector.{Vect, IsVec}
 use Rattle.relation.specs.Relation.{VanishesTo}
+use Rattle.relation.specs.Pick.{pick}
+use Rattle.relation.specs.Operations.{addMultiple, addMultiples, timesX, unit}
+use Rattle.relation.proofs.Pick.{pick-yes, pick-no}
 use Rattle.relation.proofs.Sum.{sum-ext, sum-single, sum-all-zero}
 use Rattle.relation.proofs.Product.{dot-add, dot-scale, dot-mod, dot-zero, conv-shift}
-
--- P + c * S
-unfoldable pub addMultiple : ℕ → ℕ → Vect → Vect → Vect
-addMultiple p c S P = λ i k. (P i k + c * S i k) % p
-
--- P + the sum of the a l * R l, l < N
-unfoldable pub addMultiples : ℕ → ℕ → (ℕ → ℕ) → (ℕ → Vect) → Vect → Vect
-addMultiples p N a R P k t = (P k t + sumTo N (λ l. a l * R l k t)) % p
-
--- X * P
-unfoldable pub timesX : Vect → Vect
-timesX P i zero = 0
-timesX P i (suc k) = P i k
 
 -- X^t * P
 unfoldable pub timesXPower : ℕ → Vect → Vect
@@ -38,29 +26,9 @@ timesXPower (suc t) P = timesX (timesXPower t P)
 abbrev pub zeroVector : Vect
 zeroVector = λ i k. 0
 
--- 1 where a decision is yes
-unfoldable pub bit : {A : Type 0} → Dec A → ℕ
-bit (yes a) = 1
-bit (no a) = 0
-
-bit-yes : {A : Type 0} (d : Dec A) → A → bit d ≡ 1
-unfolding bit
-bit-yes (yes a) h = refl
-bit-yes (no a) h = absurd (a h)
-
-bit-no : {A : Type 0} (d : Dec A) → ¬ A → bit d ≡ 0
-unfolding bit
-bit-no (yes a) h = absurd (h a)
-bit-no (no a) h = refl
-
--- the vector whose entry l is 1
-unfoldable pub unit : ℕ → Vect
-unit l i zero = bit (ℕ-discrete i l)
-unit l i (suc k) = 0
-
 pub unit-other : (l i k : ℕ) → i ≢ l → unit l i k ≡ 0
 unfolding unit
-unit-other l i zero h = bit-no (ℕ-discrete i l) h
+unit-other l i zero h = pick-no (ℕ-discrete i l) 1 0 h
 unit-other l i (suc k) h = refl
 
 pub unit-high : (l i k : ℕ) → k ≢ 0 → unit l i k ≡ 0
@@ -70,13 +38,13 @@ unit-high l i (suc k) h = refl
 
 pub unit-one : (l : ℕ) → unit l l 0 ≡ 1
 unfolding unit
-unit-one l = bit-yes (ℕ-discrete l l) refl
+unit-one l = pick-yes (ℕ-discrete l l) 1 0 refl
 
 unit-small : (p l i k : ℕ) → 1 < p → unit l i k < p
-unfolding unit bit
+unfolding unit pick
 unit-small p l i zero h = go (ℕ-discrete i l)
   where
-    go : (d : Dec (i ≡ l)) → bit d < p
+    go : (d : Dec (i ≡ l)) → pick d 1 0 < p
     go (yes a) = h
     go (no a) = omega arith
 unit-small p l i (suc k) h = omega arith

@@ -2,7 +2,6 @@
 -- first k + b_i and then i; with b_i = B - d_i that is the shifted degree and then the index (see Shift).
 -- The nonzero position of largest weight leads the vector.
 --   weight-*            the order of the positions
---   Below, LeadsAt      what lies below a weight; the leading position
 --   top, no-lead        each bound is reached by a leading position, or can be lowered
 use mathlib.Core.Path.{_≡_, refl, ap, sym, _∙_}
 use mathlib.Core.Logic.{_≢_, _⊎_, inl, inr}
@@ -12,20 +11,10 @@ use native.Mathlib.Decide.{ℕ-discrete, decLe, decLt}
 use native.Mathlib.Omega.{arith}
 use Rattle.relation.specs.Sum.{sumTo}
 use Rattle.relation.specs.Vector.{Vect, IsVec}
+use Rattle.relation.specs.Weight.{weight, BelowWeight, LeadsAt}
 use Rattle.relation.proofs.Sum.{sum-ge}
-use Rattle.relation.proofs.Vector.{timesX, timesXPower}
-
-unfoldable pub weight : ℕ → (ℕ → ℕ) → ℕ → ℕ → ℕ
-weight n b i k = (k + b i) * n + i
-
--- every position of weight W or more is zero
-abbrev pub Below : ℕ → (ℕ → ℕ) → ℕ → Vect → Type 0
-Below n b W P = (i k : ℕ) → i < n → W ≤ weight n b i k → P i k ≡ 0
-
--- the leading position of P is (i, e)
-pub record LeadsAt (n : ℕ) (b : ℕ → ℕ) (P : Vect) (i e : ℕ) : Type 0 where
-  pub nonzero : P i e ≢ 0
-  pub above : Below n b (suc (weight n b i e)) P
+use Rattle.relation.specs.Operations.{timesX}
+use Rattle.relation.proofs.Vector.{timesXPower}
 
 pub weight-suc : (n : ℕ) (b : ℕ → ℕ) (i k : ℕ) → weight n b i (suc k) ≡ weight n b i k + n
 unfolding weight
@@ -99,17 +88,17 @@ order→weight n b i e j k hi hj h t = elim (ℕ-discrete (k + b j) (e + b i)) [
 ]
 
 -- bounds
-pub below-timesX : (n : ℕ) (b : ℕ → ℕ) (W : ℕ) (P : Vect) → Below n b W P → Below n b (W + n) (timesX P)
+pub below-timesX : (n : ℕ) (b : ℕ → ℕ) (W : ℕ) (P : Vect) → BelowWeight n b W P → BelowWeight n b (W + n) (timesX P)
 unfolding timesX
 below-timesX n b W P h i zero hi l = refl
 below-timesX n b W P h i (suc k) hi l = h i k hi (omega (arith, weight-suc n b i k))
 
-pub below-timesXPower : (n : ℕ) (b : ℕ → ℕ) (W t : ℕ) (P : Vect) → Below n b W P → Below n b (W + t * n) (timesXPower t P)
+pub below-timesXPower : (n : ℕ) (b : ℕ → ℕ) (W t : ℕ) (P : Vect) → BelowWeight n b W P → BelowWeight n b (W + t * n) (timesXPower t P)
 unfolding timesXPower
 below-timesXPower n b W zero P h i k hi l = h i k hi (omega (arith, zero-mul n))
 below-timesXPower n b W (suc t) P h i k hi l = below-timesX n b (W + t * n) (timesXPower t P) (below-timesXPower n b W t P h) i k hi (omega (arith, suc-mul t n))
 
-pub vec-below : (p n : ℕ) (b : ℕ → ℕ) (P : Vect) → (h : IsVec p n P) → Below n b ((h .bound + sumTo n b) * n + n) P
+pub vec-below : (p n : ℕ) (b : ℕ → ℕ) (P : Vect) → (h : IsVec p n P) → BelowWeight n b ((h .bound + sumTo n b) * n + n) P
 unfolding weight
 vec-below p n b P h i k hi l = h .high i k (elim (decLe (h .bound) k) [ yes g ↦ g | no g ↦ absurd (bad (omega arith)) ])
   where
@@ -123,7 +112,7 @@ vec-below p n b P h i k hi l = h .high i k (elim (decLe (h .bound) k) [ yes g �
 unfoldable pub Top : ℕ → (ℕ → ℕ) → ℕ → Vect → Type 0
 Top n b W P = (i : ℕ) × (k : ℕ) × (i < n) × (weight n b i k ≡ W) × LeadsAt n b P i k
 
-pub top : (n : ℕ) (b : ℕ → ℕ) (W : ℕ) (P : Vect) → Below n b (suc W) P → Below n b W P ⊎ Top n b W P
+pub top : (n : ℕ) (b : ℕ → ℕ) (W : ℕ) (P : Vect) → BelowWeight n b (suc W) P → BelowWeight n b W P ⊎ Top n b W P
 unfolding Top
 top n b W P h = elim (decLt 0 n) [
   | no z ↦ inl (λ i k hi l. absurd (omega arith))
@@ -133,7 +122,7 @@ top n b W P h = elim (decLt 0 n) [
   ]
 ]
   where
-    found : (i k : ℕ) → i < n → weight n b i k ≡ W → Below n b W P ⊎ Top n b W P
+    found : (i k : ℕ) → i < n → weight n b i k ≡ W → BelowWeight n b W P ⊎ Top n b W P
     found i k hi e = elim (ℕ-discrete (P i k) 0) [
       | yes z ↦ inl (λ j l hj g. elim (ℕ-discrete (weight n b j l) W) [
         | yes q ↦ let u = weight-inj n b j l i k hj hi (q ∙ sym e) in rw (u .0, u .1) z
@@ -143,7 +132,7 @@ top n b W P h = elim (decLt 0 n) [
     ]
 
 -- a vector with no leading position is zero
-pub no-lead : (n : ℕ) (b : ℕ → ℕ) (W : ℕ) (P : Vect) → Below n b W P → ((i k : ℕ) → i < n → ¬ LeadsAt n b P i k)
+pub no-lead : (n : ℕ) (b : ℕ → ℕ) (W : ℕ) (P : Vect) → BelowWeight n b W P → ((i k : ℕ) → i < n → ¬ LeadsAt n b P i k)
     → (i k : ℕ) → i < n → P i k ≡ 0
 unfolding Top
 no-lead n b zero P h z i k hi = h i k hi (omega arith)
@@ -153,7 +142,7 @@ no-lead n b (suc W) P h z i k hi = elim (top n b W P h) [
 ]
 
 -- a vector that is not zero has one
-pub lead-exists : (n : ℕ) (b : ℕ → ℕ) (W : ℕ) (P : Vect) → Below n b W P → (i k : ℕ) → i < n → P i k ≢ 0 → (j : ℕ) × (e : ℕ) × (j < n) × LeadsAt n b P j e
+pub lead-exists : (n : ℕ) (b : ℕ → ℕ) (W : ℕ) (P : Vect) → BelowWeight n b W P → (i k : ℕ) → i < n → P i k ≢ 0 → (j : ℕ) × (e : ℕ) × (j < n) × LeadsAt n b P j e
 unfolding Top
 lead-exists n b zero P h i k hi nz = absurd (nz (h i k hi (omega arith)))
 lead-exists n b (suc W) P h i k hi nz = elim (top n b W P h) [

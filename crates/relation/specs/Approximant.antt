@@ -3,7 +3,7 @@ use mathlib.Core.Path.{_≡_}
 use Prim.Native.Nat.{ℕ, _<_}
 use lib.IntN.{ℤ, pos}
 use Rattle.relation.specs.Vector.{Vect}
-use Rattle.relation.specs.Integer.{_≤ℤ_}
+use lib.Signed.{_≤ℤ_}
 use Rattle.relation.specs.ShiftedDegree.{ShiftedDegree}
 use Rattle.relation.specs.MinimalBasis.{MinimalBasis}
 use Rattle.relation.specs.Reduced.{Reduced}

@@ -4,7 +4,6 @@ pub mod Product
 pub mod Vector
 pub mod Relation
 pub mod Degree
-pub mod Integer
 pub mod ShiftedDegree
 pub mod TypeOf
 pub mod MinimalBasis
@@ -15,5 +14,12 @@ pub mod Shrink
 pub mod Sigma
 pub mod Approximant
 pub mod Combination
+pub mod SameRelations
 pub mod Pair
 pub mod Starred
+-- Working notions, which only contracts of the engine's own operations cite; no promise to a user rests on them.
+pub mod Pick
+pub mod Operations
+pub mod Weight
+pub mod ReducedBasis
+pub mod Moving

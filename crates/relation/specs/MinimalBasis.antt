@@ -4,7 +4,7 @@ use Prim.Native.Nat.{ℕ, _<_}
 use lib.IntN.{ℤ}
 use Rattle.relation.specs.Vector.{Vect, Nonzero}
 use Rattle.relation.specs.Relation.{Relation}
-use Rattle.relation.specs.Integer.{_≤ℤ_}
+use lib.Signed.{_≤ℤ_}
 use Rattle.relation.specs.ShiftedDegree.{ShiftedDegree}
 use Rattle.relation.specs.TypeOf.{TypeOf}
 

@@ -5,7 +5,7 @@ use Prim.Native.Nat.{ℕ, _<_}
 use lib.IntN.{ℤ, pos, _-ℤ_}
 use Rattle.relation.specs.Vector.{Vect}
 use Rattle.relation.specs.Degree.{Degree}
-use Rattle.relation.specs.Integer.{_≤ℤ_}
+use lib.Signed.{_≤ℤ_}
 
 -- the degree e of entry i, less d_i
 abbrev pub shift : (ℕ → ℤ) → ℕ → ℕ → ℤ

@@ -7,6 +7,8 @@ use lib.IntN.{ℤ, pos}
 use lib.ListN.{length, getD}
 use Rattle.field.specs.Prime.{Prime}
 use Rattle.field.specs.Inverse.{Inverse}
+use Rattle.words.specs.Polynomial.{poly}
+use Rattle.sizes.specs.Entry.{typeOf}
 use Rattle.relation.specs.Vector.{Vect}
 use Rattle.relation.specs.ShiftedDegree.{ShiftedDegree}
 use Rattle.relation.specs.MinimalBasis.{MinimalBasis}
@@ -16,27 +18,21 @@ use Rattle.relation.specs.Shrink.{ShrinkCount}
 use Rattle.relation.specs.Approximant.{LeastRow, Approximant}
 use Rattle.relation.specs.Pair.{Pair}
 
-abbrev pub poly : List ℕ → ℕ → ℕ
-poly l k = getD l k 0
+-- the vector whose entry i is list i, and the rows whose row i is that of list i
+abbrev pub listed : List (List ℕ) → Vect
+listed l i = poly (getD l i [])
 
-abbrev pub vector : List (List ℕ) → Vect
-vector l i = poly (getD l i [])
+abbrev pub listedRows : List (List (List ℕ)) → ℕ → Vect
+listedRows l i = listed (getD l i [])
 
-abbrev pub rowsOf : List (List (List ℕ)) → ℕ → Vect
-rowsOf l i = vector (getD l i [])
-
--- entry i of the type is pos of the number in the list
-abbrev pub typeOf : List ℕ → ℕ → ℤ
-typeOf l i = pos (getD l i 0)
-
-pub record Job : Type 0 where
+pub record StarredJob : Type 0 where
   pub p : ℕ
   pub n : ℕ
   pub s : ℕ
   pub type : List ℕ
   pub series : List (List ℕ)
 
-pub record Answer : Type 0 where
+pub record StarredAnswer : Type 0 where
   pub rows : List (List (List ℕ))
   pub pivots : List ℕ
   pub degrees : List ℤ
@@ -44,25 +40,27 @@ pub record Answer : Type 0 where
   pub count : ℕ
 
 -- the answer is right for p, n series F, order s and type d
-pub record Right (p n : ℕ) (F : Vect) (s : ℕ) (d : ℕ → ℤ) (a : Answer) : Type 0 where
+pub record Right (p n : ℕ) (F : Vect) (s : ℕ) (d : ℕ → ℤ) (a : StarredAnswer) : Type 0 where
   pub prime : Prime p
-  pub basis : MinimalBasis p n F s d (rowsOf (a .rows))
-  pub reduced : Reduced n (rowsOf (a .rows))
-  pub pivots : (i : ℕ) → i < n → Pivot (rowsOf (a .rows)) i (getD (a .pivots) i 0)
-  pub degrees : (i : ℕ) → i < n → ShiftedDegree n d (rowsOf (a .rows) i) (getD (a .degrees) i (pos 0))
-  pub least : (i : ℕ) × (suc i ≡ a .least) × LeastRow n d (rowsOf (a .rows)) i
+  pub basis : MinimalBasis p n F s d (listedRows (a .rows))
+  pub reduced : Reduced n (listedRows (a .rows))
+  pub pivots : (i : ℕ) → i < n → Pivot (listedRows (a .rows)) i (getD (a .pivots) i 0)
+  pub degrees : (i : ℕ) → i < n → ShiftedDegree n d (listedRows (a .rows) i) (getD (a .degrees) i (pos 0))
+  pub least : (i : ℕ) × (suc i ≡ a .least) × LeastRow n d (listedRows (a .rows)) i
   pub count : ShrinkCount p n F s (a .count)
 
 -- a pair names the basis that it is read from
 pub data Case : Type 0 where
-  basis : Job → Answer → Case
-  approximant : Job → Answer → Case
-  pair : (p k : ℕ) (g r t : List ℕ) → Answer → Case
+  basis : StarredJob → StarredAnswer → Case
+  approximant : StarredJob → StarredAnswer → Case
+  pair : (p k : ℕ) (g r t : List ℕ) → StarredAnswer → Case
   inverse : (p a b : ℕ) → Case
 
 unfoldable pub Holds : Case → Type 0
-Holds (basis j a) = Right (j .p) (j .n) (vector (j .series)) (j .s) (typeOf (j .type)) a
-Holds (approximant j a) = (i : ℕ) × (suc i ≡ a .least) × Approximant (j .p) (j .n) (vector (j .series)) (typeOf (j .type)) (j .s) (rowsOf (a .rows)) i
+Holds (basis j a) = Right (j .p) (j .n) (listed (j .series)) (j .s) (typeOf (j .type)) a
+Holds (approximant j a) =
+    (r : Right (j .p) (j .n) (listed (j .series)) (j .s) (typeOf (j .type)) a)
+    × Approximant (j .p) (j .n) (listed (j .series)) (typeOf (j .type)) (j .s) (listedRows (a .rows)) (r .least .0)
 Holds (pair p k g r t a) = Prime p × Pair p k (length g) (poly g) (poly r) (poly t)
 Holds (inverse p a b) = Prime p × Inverse p a b
 
@@ -71,10 +69,10 @@ unfoldable pub AllHold : List Case → Type 0
 AllHold [] = Unit
 AllHold (c ∷ cs) = Holds c × AllHold cs
 
-abbrev pub c1 : Job
+abbrev pub c1 : StarredJob
 c1 = record { p = 7; n = 2; s = 3; type = 0 ∷ 2 ∷ []; series = (6 ∷ 0 ∷ 0 ∷ []) ∷ (1 ∷ 1 ∷ 2 ∷ []) ∷ [] }
 
-abbrev pub c1-answer : Answer
+abbrev pub c1-answer : StarredAnswer
 c1-answer = record {
   rows = ((6 ∷ 1 ∷ []) ∷ (6 ∷ 2 ∷ []) ∷ []) ∷ ((6 ∷ []) ∷ (6 ∷ 1 ∷ 1 ∷ []) ∷ []) ∷ [];
   pivots = 1 ∷ 2 ∷ [];
@@ -128,10 +126,10 @@ c6 = basis (record { p = 7; n = 2; s = 2; type = 0 ∷ 0 ∷ []; series = (0 ∷
   count = 0;
 })
 
-abbrev pub c7 : Job
+abbrev pub c7 : StarredJob
 c7 = record { p = 7; n = 1; s = 0; type = 0 ∷ []; series = [] ∷ [] }
 
-abbrev pub c7-answer : Answer
+abbrev pub c7-answer : StarredAnswer
 c7-answer = record { rows = ((1 ∷ []) ∷ []) ∷ []; pivots = 0 ∷ []; degrees = pos 0 ∷ []; least = 1; count = 0 }
 
 abbrev pub c9 : Case

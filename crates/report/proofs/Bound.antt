@@ -5,6 +5,7 @@ use Prim.Native.Nat.{ℕ, zero, suc, _+_, _*_, _-_, _/_, _^_, _≤_, _<_}
 use native.Mathlib.Nat.{pow-suc, mul-le-mul-right, suc-mul, le-trans}
 use native.Mathlib.Decide.{decLt, ℕ-discrete}
 use native.Mathlib.Omega.{arith}
+use lib.IntN.{ℤ}
 use lib.ListN.{length, getD, length-append}
 use lib.ListN.{length-take}
 use Rattle.io.specs.Digits.{digits}
@@ -13,8 +14,8 @@ use Rattle.report.specs.Decimal.{placesWithin, places, decimal, signed}
 use Rattle.report.specs.Entry.{trim, shown, degree}
 use Rattle.words.specs.Part.{part}
 use Rattle.words.proofs.Part.{part-fits, part-length}
-use Rattle.report.specs.Text.{number, numbers, sizes, heading, entryText, entriesText, shiftedDegree, degrees, pivotLine, rowLine, rowLines, numbered, basisText, refusalText}
-use Rattle.report.specs.Words.{relations, typed, row, space, least, refused, line}
+use Rattle.report.specs.Text.{number, numbers, typeNumbers, sizes, heading, entryText, entriesText, shiftedDegree, degrees, pivotLine, rowLine, rowLines, numbered, basisText, refusalText}
+use Rattle.report.specs.Words.{relationsWord, typeWord, rowWord, space, leastWord, refusedWord, line}
 use Rattle.report.specs.Calls.{textBytes}
 use Rattle.words.specs.Within.{Within}
 use Rattle.words.proofs.Within.{within-take, within-part}
@@ -104,9 +105,6 @@ both {a} {b} h g = record { fits = omega (arith, length-append a b, h .fits, g .
 a-number : (n : ℕ) → n < 2 ^ 32 → Most (number n) 11
 a-number n h = record { fits = number-length n h }
 
-pub width-most : (n w : ℕ) → n ≤ 8 → w ≤ 256 → n * w ≤ 2048
-width-most n w few short = omega (arith, mul-le-mul-right {m = n} {n = 8} w few)
-
 module _ (n w : ℕ) (few : n ≤ 8) (short : w ≤ 256) (wide : 0 < w) where
   entries-length : (l : List ℕ) → length l ≡ n * w → Words l → length (entriesText n w l) ≤ 22544
   unfolding entriesText
@@ -114,10 +112,12 @@ module _ (n w : ℕ) (few : n ≤ 8) (short : w ≤ 256) (wide : 0 < w) where
       let e : length (part w k l) ≡ w = part-length w k l (omega (arith, part-fits n w k b)) in
       entry-length (part w k l) (omega arith) (omega arith) (within-part _ w k l g)
 
-  line-length : (e d i : ℕ) (l : List ℕ) → e < 2 ^ 32 → d < 2 ^ 32 → i < n → length l ≡ n * w → Words l → length (pivotLine n w e d i l) ≤ 22582
+  line-length : (e : ℕ) (δ : ℤ) (i : ℕ) (l : List ℕ) → e < 2 ^ 32 → length (signed δ) ≤ 11 → i < n → length l ≡ n * w → Words l
+      → length (pivotLine n w e δ i l) ≤ 22582
   unfolding pivotLine degrees
-  line-length e d i l he hd hi h g =
-      let front = both (both (both (both (most row) (a-number (i + 1) (omega arith))) (a-number e he)) (most space)) (record { fits = signed-length e d he hd }) in
+  line-length e δ i l he hδ hi h g =
+      let counted = both (both (most rowWord) (a-number (i + 1) (omega arith))) (a-number e he) in
+      let front = both (both counted (most space)) (record { fits = hδ }) in
       both (both front (record { fits = entries-length l h g })) (most line) .fits
 
   degree-small : (l : List ℕ) → length l ≤ 256 → degree l < 2 ^ 32
@@ -127,19 +127,21 @@ module _ (n w : ℕ) (few : n ≤ 8) (short : w ≤ 256) (wide : 0 < w) where
   rows-length : (d basis : List ℕ) → length basis ≡ n * (n * w) → Words d → Words basis → length (rowLines n w d basis) ≤ 180656
   unfolding rowLines rowLine
   rows-length d basis h hd hb = each-most (λ i. rowLine n w (getD d i 0) i (part (n * w) i basis)) 22582 8 n few λ i b.
-      let e : length (part (n * w) i basis) ≡ n * w = part-length (n * w) i basis (omega (arith, part-fits n (n * w) i b)) in
-      let f : length (part w i (part (n * w) i basis)) ≡ w = part-length w i (part (n * w) i basis) (omega (arith, part-fits n w i b)) in
-      line-length (degree (part w i (part (n * w) i basis))) (getD d i 0) i (part (n * w) i basis) (degree-small (part w i (part (n * w) i basis)) (omega arith)) (hd i) b e (within-part _ (n * w) i basis hb)
+      let l = part (n * w) i basis in
+      let e : length l ≡ n * w = part-length (n * w) i basis (omega (arith, part-fits n (n * w) i b)) in
+      let f : length (part w i l) ≡ w = part-length w i l (omega (arith, part-fits n w i b)) in
+      let small = degree-small (part w i l) (omega arith) in
+      line-length _ _ i l small (signed-length _ (getD d i 0) small (hd i)) b e (within-part _ (n * w) i basis hb)
 
 heading-length : (p n s : ℕ) (d : List ℕ) → p < 2 ^ 32 → n < 2 ^ 32 → s < 2 ^ 32 → length d ≤ 8 → Words d → length (heading p n s d) ≤ 136
-unfolding heading sizes
+unfolding heading sizes typeNumbers numbers number signed
 heading-length p n s d hp hn hs h g =
-    let front = both (both (both (most relations) (a-number p hp)) (a-number n hn)) (a-number s hs) in
-    both (both (both front (most typed)) (record { fits = numbers-length d 8 h g })) (most line) .fits
+    let front = both (both (both (most relationsWord) (a-number p hp)) (a-number n hn)) (a-number s hs) in
+    both (both (both front (most typeWord)) (record { fits = numbers-length d 8 h g })) (most line) .fits
 
-least-length : (i : ℕ) → i < 2 ^ 32 → length (numbered least i) ≤ 17
+least-length : (i : ℕ) → i < 2 ^ 32 → length (numbered leastWord i) ≤ 17
 unfolding numbered
-least-length i h = both (both (most least) (a-number i h)) (most line) .fits
+least-length i h = both (both (most leastWord) (a-number i h)) (most line) .fits
 
 pub basis-fits : (p n s : ℕ) (d basis : List ℕ) (i : ℕ) → p < 2 ^ 32 → n ≤ 8 → s ≤ 255 → i < 2 ^ 32 → length d ≡ n → length basis ≡ n * (n * (s + 1)) → Words d → Words basis
     → length (basisText p n s d basis i) ≤ textBytes
@@ -147,9 +149,9 @@ unfolding basisText
 basis-fits p n s d basis i hp hn hs hi ed eb wd wb =
     let front : Most (heading p n s d) 136 = record { fits = heading-length p n s d hp (omega arith) (omega arith) (omega arith) wd } in
     let rows : Most (rowLines n (s + 1) d basis) 180656 = record { fits = rows-length n (s + 1) hn (omega arith) (omega arith) d basis eb wd wb } in
-    let end : Most (numbered least i) 17 = record { fits = least-length i hi } in
+    let end : Most (numbered leastWord i) 17 = record { fits = least-length i hi } in
     both (both front rows) end .fits
 
 pub refusal-fits : (k : ℕ) → k < 2 ^ 32 → length (refusalText k) ≤ textBytes
 unfolding refusalText numbered
-refusal-fits k h = le-trans (both (both (most refused) (a-number k h)) (most line) .fits) (omega arith)
+refusal-fits k h = le-trans (both (both (most refusedWord) (a-number k h)) (most line) .fits) (omega arith)

@@ -5,7 +5,7 @@ use Prim.Native.Nat.{ℕ, zero, suc, _+_, _-_, _≤_, _<_}
 use native.Mathlib.Omega.{arith}
 use lib.ListN.{length, take, getD, length-append, length-take}
 use lib.Seq.{take-suc, length-take-le}
-use Rattle.report.specs.Entry.{keep, trim, orZero, shown}
+use Rattle.report.specs.Entry.{keep, trim, orZero, shown, degree}
 
 trim-zero : (l : List ℕ) → trim (l ++ (0 ∷ [])) ≡ trim l
 unfolding trim keep
@@ -76,3 +76,26 @@ shown-front l e = go (trim l) e ∙ trim-front l
     go : (t : List ℕ) → (length t ≡ 0 → ⊥) → orZero t ≡ t
     go [] z = absurd (z refl)
     go (c ∷ t) z = refl
+
+trim-zeros : (l : List ℕ) → ((t : ℕ) → getD l t 0 ≡ 0) → trim l ≡ []
+unfolding trim keep
+trim-zeros [] h = refl
+trim-zeros (c ∷ l) h = rw (trim-zeros l (λ t. h (suc t)), h 0)
+
+-- the words up to the last that is not zero are one more than its place
+trim-length : (l : List ℕ) (e : ℕ) → (getD l e 0 ≡ 0 → ⊥) → ((t : ℕ) → e < t → getD l t 0 ≡ 0) → length (trim l) ≡ suc e
+unfolding trim keep
+trim-length [] e last above = absurd (last refl)
+trim-length (c ∷ l) zero last above = rw (trim-zeros l (λ t. above (suc t) (omega arith))) (one c (positive c last))
+  where
+    one : (c : ℕ) → 0 < c → length (keep c []) ≡ 1
+    one zero h = absurd (omega arith)
+    one (suc c) h = refl
+trim-length (c ∷ l) (suc e) last above =
+    let n : length (trim l) ≡ suc e = trim-length l e last (λ t h. above (suc t) (omega arith)) in
+    ap length (keep-cons c (trim l) (omega arith)) ∙ ap suc n
+
+-- the printed degree is the place of the last word that is not zero
+pub degree-is : (l : List ℕ) (e : ℕ) → (getD l e 0 ≡ 0 → ⊥) → ((t : ℕ) → e < t → getD l t 0 ≡ 0) → degree l ≡ e
+unfolding degree
+degree-is l e last above = omega (arith, trim-length l e last above)

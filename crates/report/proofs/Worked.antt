@@ -6,7 +6,7 @@ use Rattle.report.specs.Each.{each}
 use Rattle.report.specs.Decimal.{placesWithin, places, decimal, signed}
 use Rattle.report.specs.Entry.{keep, trim, orZero, shown, degree}
 use Rattle.words.specs.Part.{part}
-use Rattle.report.specs.Text.{number, numbers, sizes, heading, entryText, entriesText, shiftedDegree, degrees, pivotLine, rowLine, rowLines, numbered, basisText, refusalText}
+use Rattle.report.specs.Text.{number, numbers, typeNumbers, sizes, heading, entryText, entriesText, shiftedDegree, degrees, pivotLine, rowLine, rowLines, numbered, basisText, refusalText}
 
 -- "relations 7 2 3 type 0 2"
 abbrev line1 : List ℕ
@@ -29,7 +29,7 @@ abbrev basis : List ℕ
 basis = 6 ∷ 1 ∷ 0 ∷ 0 ∷ 6 ∷ 2 ∷ 0 ∷ 0 ∷ 6 ∷ 0 ∷ 0 ∷ 0 ∷ 6 ∷ 1 ∷ 1 ∷ 0 ∷ []
 
 pub c1-text : basisText 7 2 3 (0 ∷ 2 ∷ []) basis 2 ≡ line1 ++ line2 ++ line3 ++ line4
-unfolding basisText heading sizes rowLines rowLine pivotLine degrees numbered entriesText entryText shiftedDegree numbers number signed decimal places placesWithin each part keep trim orZero shown degree
+unfolding basisText heading typeNumbers sizes rowLines rowLine pivotLine degrees numbered entriesText entryText shiftedDegree numbers number signed decimal places placesWithin each part keep trim orZero shown degree
 c1-text = refl
 
 -- a negative shifted degree and a zero entry: the row (1, 0) at d = (3, 0) is "row 1 0 -3 | 1 | 0"

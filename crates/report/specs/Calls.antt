@@ -18,21 +18,21 @@ abbrev pub textBytes : ℕ
 textBytes = 180809
 
 -- n (2), the order (3), then the lengths of the lent slices (4)
-abbrev pub basisOrder : ℕ → ℕ → ℕ → ℕ → ℕ → Order
-basisOrder n s types words bytes =
+abbrev pub basisTextOrder : ℕ → ℕ → ℕ → ℕ → ℕ → Order
+basisTextOrder n s types words bytes =
     (2 when ((n < 1) ⊎ (8 < n))) ∷ (3 when (255 < s)) ∷ (4 when ((types ≢ n) ⊎ ((words ≢ n * (n * (s + 1))) ⊎ (bytes ≢ textBytes)))) ∷ []
 
-abbrev pub refusalOrder : ℕ → Order
-refusalOrder bytes = (4 when (bytes ≢ textBytes)) ∷ []
+abbrev pub refusalTextOrder : ℕ → Order
+refusalTextOrder bytes = (4 when (bytes ≢ textBytes)) ∷ []
 
 -- the text stands in the first bytes, and its length is answered; on a refusal the buffer stays as lent
-abbrev pub WriteOutcome : Order → List ℕ → List ℕ → List ℕ → Answer → Type 0
-WriteOutcome o text before after said =
+abbrev pub TextOutcome : Order → List ℕ → List ℕ → List ℕ → Answer → Type 0
+TextOutcome o text before after said =
     Outcome o (λ k. (said ≡ refusal k) × (after ≡ before)) ((said ≡ result (length text ∷ [])) × (after ≡ text ++ drop (length text) before))
 
-unfoldable pub BasisOutcome : ℕ → ℕ → ℕ → List ℕ → List ℕ → ℕ → List ℕ → List ℕ → Answer → Type 0
-BasisOutcome p n s d basis least before after said =
-    WriteOutcome (basisOrder n s (length d) (length basis) (length before)) (basisText p n s d basis least) before after said
+unfoldable pub BasisTextOutcome : ℕ → ℕ → ℕ → List ℕ → List ℕ → ℕ → List ℕ → List ℕ → Answer → Type 0
+BasisTextOutcome p n s d basis least before after said =
+    TextOutcome (basisTextOrder n s (length d) (length basis) (length before)) (basisText p n s d basis least) before after said
 
-unfoldable pub RefusalOutcome : ℕ → List ℕ → List ℕ → Answer → Type 0
-RefusalOutcome k before after said = WriteOutcome (refusalOrder (length before)) (refusalText k) before after said
+unfoldable pub RefusalTextOutcome : ℕ → List ℕ → List ℕ → Answer → Type 0
+RefusalTextOutcome k before after said = TextOutcome (refusalTextOrder (length before)) (refusalText k) before after said

@@ -1,4 +1,6 @@
 // The text of a basis: the lines that `relations` prints, written to a lent buffer. Each function appends its piece of text at a position and answers the next position.
+use degree::Degree;
+use degree::ShiftedDegree;
 use field::Tested;
 ghost use mathlib.Core.Path.{_≡_};
 ghost use Prim.Native.Nat.{_+_, _*_, _-_, _<_, _≤_};
@@ -6,9 +8,9 @@ ghost use lib.ListN.{length};
 ghost use Rattle.field.specs.Calls.{Tests};
 ghost use Rattle.report.specs.Decimal.{decimal, signed};
 ghost use Rattle.report.specs.Entry.{trim, degree};
-ghost use Rattle.report.specs.Text.{number, numbers, sizes, heading, entryText, entriesText, shiftedDegree, degrees, pivotLine, rowLine, rowLines, numbered, basisText};
+ghost use Rattle.report.specs.Text.{number, numbers, sizes, heading, entryText, entriesText, degrees, pivotLine, rowLine, rowLines, numbered, basisText};
 ghost use Rattle.report.specs.Wrote.{Room, Wrote};
-ghost use Rattle.report.specs.Calls.{textSays, basisOrder, BasisOutcome, RefusalOutcome};
+ghost use Rattle.report.specs.Calls.{textSays, basisTextOrder, BasisTextOutcome, RefusalTextOutcome};
 
 // Every text fits: 11 bytes for each number, at 8 rows of 8 entries of 256 words.
 pub const TEXT: usize = 180_809;
@@ -56,16 +58,17 @@ pub fn put_number(x: u64, out: &mut [u8], at: usize) -> usize
     put_decimal(x, out, next)
 }
 
-// a - b, with a minus sign where it is negative.
-fn put_difference(a: u64, b: u64, out: &mut [u8], at: usize) -> usize
-    requires { ⌜ Room (signed (shiftedDegree a b)) (now out) at ⌝ }
-    ensures { λ r. ⌜ Wrote (signed (shiftedDegree a b)) (now (out .entry)) at (now (out .exit)) r ⌝ }
+// A shifted degree, with a minus sign where it is negative. It is at least -2^63, so -1 - z fits where z is negative.
+fn put_shifted(shifted: ShiftedDegree, out: &mut [u8], at: usize) -> usize
+    requires { ⌜ Room (signed (shifted .0)) (now out) at ⌝ }
+    ensures { λ r. ⌜ Wrote (signed (shifted .0)) (now (out .entry)) at (now (out .exit)) r ⌝ }
 {
-    if a < b {
+    let z = shifted.0;
+    if z < 0 {
         let next = put(b"-", out, at);
-        put_decimal(b - a, out, next)
+        put_decimal((-1 - z) as u64 + 1, out, next)
     } else {
-        put_decimal(a - b, out, at)
+        put_decimal(z as u64, out, at)
     }
 }
 
@@ -96,11 +99,11 @@ fn used(entry: &[u32]) -> usize
     k
 }
 
-fn degree_of(entry: &[u32]) -> usize
-    ensures { λ r. ⌜ r ≡ degree (now (entry .entry)) ⌝ }
+fn degree_of(entry: &[u32]) -> Degree
+    ensures { λ r. ⌜ r .0 ≡ degree (now (entry .entry)) ⌝ }
 {
     let k = used(entry);
-    if k == 0 { 0 } else { k - 1 }
+    if k == 0 { Degree(0) } else { Degree(k - 1) }
 }
 
 fn put_entry(entry: &[u32], out: &mut [u8], at: usize) -> usize
@@ -129,16 +132,17 @@ fn put_entries(row: &[u32], n: usize, w: usize, out: &mut [u8], at: usize) -> us
     next
 }
 
-// The line of row i, counted from 0, at its pivot degree; the line counts from 1.
-fn put_degrees(i: usize, pivot: u64, d: u32, out: &mut [u8], at: usize) -> usize
-    requires { ⌜ (i < 8) × Room (degrees pivot d i) (now out) at ⌝ }
-    ensures { λ r. ⌜ Wrote (degrees pivot d i) (now (out .entry)) at (now (out .exit)) r ⌝ }
+// The start of the line of row i, counted from 0: the line counts from 1.
+fn put_degrees(i: usize, pivot: Degree, shifted: ShiftedDegree, out: &mut [u8], at: usize) -> usize
+    requires { ⌜ (i < 8) × Room (degrees (pivot .0) (shifted .0) i) (now out) at ⌝ }
+    ensures { λ r. ⌜ Wrote (degrees (pivot .0) (shifted .0) i) (now (out .entry)) at (now (out .exit)) r ⌝ }
 {
+    let e = pivot.0;
     let named = put(b"row", out, at);
     let counted = put_number(i as u64 + 1, out, named);
-    let pivoted = put_number(pivot, out, counted);
+    let pivoted = put_number(e as u64, out, counted);
     let spaced = put(b" ", out, pivoted);
-    put_difference(pivot, d as u64, out, spaced)
+    put_shifted(shifted, out, spaced)
 }
 
 fn put_line(
@@ -146,25 +150,25 @@ fn put_line(
     i: usize,
     n: usize,
     w: usize,
-    pivot: u64,
-    d: u32,
+    pivot: Degree,
+    shifted: ShiftedDegree,
     out: &mut [u8],
     at: usize,
 ) -> usize
-    requires { ⌜ (i < n) × (n ≤ 8) × (length (now row) ≡ n * w) × Room (pivotLine n w pivot d i (now row)) (now out) at ⌝ }
-    ensures { λ r. ⌜ Wrote (pivotLine n w pivot d i (now (row .entry))) (now (out .entry)) at (now (out .exit)) r ⌝ }
+    requires { ⌜ (i < n) × (n ≤ 8) × (length (now row) ≡ n * w) × Room (pivotLine n w (pivot .0) (shifted .0) i (now row)) (now out) at ⌝ }
+    ensures { λ r. ⌜ Wrote (pivotLine n w (pivot .0) (shifted .0) i (now (row .entry))) (now (out .entry)) at (now (out .exit)) r ⌝ }
 {
-    let shifted = put_degrees(i, pivot, d, out, at);
-    let filled = put_entries(row, n, w, out, shifted);
+    let counted = put_degrees(i, pivot, shifted, out, at);
+    let filled = put_entries(row, n, w, out, counted);
     put(b"\n", out, filled)
 }
 
 fn put_row(row: &[u32], i: usize, n: usize, w: usize, d: u32, out: &mut [u8], at: usize) -> usize
-    requires { ⌜ (i < n) × (n ≤ 8) × (length (now row) ≡ n * w) × Room (rowLine n w d i (now row)) (now out) at ⌝ }
+    requires { ⌜ (i < n) × (n ≤ 8) × (w ≤ 256) × (length (now row) ≡ n * w) × Room (rowLine n w d i (now row)) (now out) at ⌝ }
     ensures { λ r. ⌜ Wrote (rowLine n w d i (now (row .entry))) (now (out .entry)) at (now (out .exit)) r ⌝ }
 {
     let pivot = degree_of(words::part_at(row, i, w));
-    put_line(row, i, n, w, pivot as u64, d, out, at)
+    put_line(row, i, n, w, pivot, ShiftedDegree::of(pivot, d), out, at)
 }
 
 fn put_rows(n: usize, w: usize, d: &[u32], basis: &[u32], out: &mut [u8], at: usize) -> usize
@@ -221,7 +225,7 @@ fn put_basis(p: u32, n: u32, s: u32, d: &[u32], basis: &[u32], least: u32, out: 
 
 // The tests of a call that writes a basis.
 fn test_basis(n: u32, s: u32, types: usize, words: usize, bytes: usize) -> Tested
-    ensures { λ r. ⌜ Tests (basisOrder n s types words bytes) r ⌝ }
+    ensures { λ r. ⌜ Tests (basisTextOrder n s types words bytes) r ⌝ }
 {
     if n < 1 || n > 8 {
         return Tested::Refused(2);
@@ -247,7 +251,7 @@ pub fn write_basis(
     least: u32,
     out: &mut [u8],
 ) -> TextAnswer
-    ensures { λ r. ⌜ BasisOutcome p n s (now (d .entry)) (now (basis .entry)) least (now (out .entry)) (now (out .exit)) (textSays r) ⌝ }
+    ensures { λ r. ⌜ BasisTextOutcome p n s (now (d .entry)) (now (basis .entry)) least (now (out .entry)) (now (out .exit)) (textSays r) ⌝ }
 {
     match test_basis(n, s, d.len(), basis.len(), out.len()) {
         Tested::Passed => TextAnswer::Length(put_basis(p, n, s, d, basis, least, out)),
@@ -257,7 +261,7 @@ pub fn write_basis(
 
 // The text of a refusal.
 pub fn write_refusal(k: u32, out: &mut [u8]) -> TextAnswer
-    ensures { λ r. ⌜ RefusalOutcome k (now (out .entry)) (now (out .exit)) (textSays r) ⌝ }
+    ensures { λ r. ⌜ RefusalTextOutcome k (now (out .entry)) (now (out .exit)) (textSays r) ⌝ }
 {
     if out.len() != TEXT {
         return TextAnswer::Refused(4);

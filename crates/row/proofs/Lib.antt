@@ -3,3 +3,5 @@ pub mod Turn
 pub mod Part
 pub mod TimesX
 pub mod Unit
+pub mod Rows
+pub mod Unique

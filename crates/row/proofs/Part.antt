@@ -10,7 +10,8 @@ use lib.Seq.{getD-take, getD-drop}
 use Rattle.words.specs.Part.{part}
 use Rattle.words.proofs.Part.{lent}
 use Rattle.relation.specs.Vector.{Vect}
-use Rattle.row.specs.View.{poly, vector}
+use Rattle.words.specs.Polynomial.{poly}
+use Rattle.row.specs.View.{vector}
 
 pub part-at : (w k : ℕ) (xs : List ℕ) (t : ℕ) → t < w → poly (part w k xs) t ≡ poly xs (k * w + t)
 unfolding part poly

@@ -1,13 +1,13 @@
 -- X times an entry of words.
-use mathlib.Core.Path.{_≡_, refl, sym, _∙_}
+use mathlib.Core.Path.{_≡_, refl}
 use mathlib.Core.List.{List}
 use Prim.Native.Nat.{ℕ, zero, suc, _-_, _≤_, _<_}
 use native.Mathlib.Decide.{ℕ-discrete}
 use native.Mathlib.Omega.{arith}
 use lib.ListN.{length, getD}
 use Rattle.relation.specs.Vector.{Vect}
-use Rattle.relation.proofs.Vector.{timesX}
-use Rattle.row.specs.View.{poly}
+use Rattle.relation.specs.Operations.{timesX}
+use Rattle.words.specs.Polynomial.{poly}
 use Rattle.row.proofs.Part.{poly-past}
 
 pub times-x-at : (xs : List ℕ) (t : ℕ) → 1 ≤ t → getD xs (t - 1) 0 ≡ timesX (λ _. poly xs) 0 t

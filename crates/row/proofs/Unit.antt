@@ -8,8 +8,10 @@ use native.Mathlib.Decide.{ℕ-discrete, decLt}
 use native.Mathlib.Omega.{arith}
 use lib.ListN.{length, set, length-set}
 use lib.Seq.{getD-set-same, getD-set-other}
-use Rattle.relation.proofs.Vector.{unit, unit-other, unit-high, unit-one}
-use Rattle.row.specs.View.{poly, vector}
+use Rattle.relation.specs.Operations.{unit}
+use Rattle.relation.proofs.Vector.{unit-other, unit-high, unit-one}
+use Rattle.words.specs.Polynomial.{poly}
+use Rattle.row.specs.View.{vector}
 use Rattle.words.proofs.Part.{part-fits, part-before}
 use Rattle.row.proofs.Part.{part-at, row-ext, vector-high}
 

@@ -1,8 +1,6 @@
 -- What a row of words has to be like for the loops that end at the pivot degrees.
 use mathlib.Core.Path.{_≡_}
-use mathlib.Core.List.{List}
-use Prim.Native.Nat.{ℕ, _*_, _<_, _≤_}
-use lib.ListN.{length}
+use Prim.Native.Nat.{ℕ, _<_}
 use Rattle.relation.specs.Vector.{Vect}
 
 -- no coefficient above the degree e
@@ -13,5 +11,6 @@ EndsAt a e = (t : ℕ) → e < t → a t ≡ 0
 abbrev pub RowEndsAt : ℕ → Vect → (ℕ → ℕ) → Type 0
 RowEndsAt n P e = (k : ℕ) → k < n → EndsAt (P k) (e k)
 
-abbrev pub Below : ℕ → Vect → Type 0
-Below p P = (k t : ℕ) → P k t < p
+-- every coefficient is below p
+abbrev pub Residues : ℕ → Vect → Type 0
+Residues p P = (k t : ℕ) → P k t < p

@@ -3,12 +3,9 @@ use mathlib.Core.List.{List}
 use Prim.Native.Nat.{ℕ, _*_}
 use lib.ListN.{getD}
 use Rattle.words.specs.Part.{part}
+use Rattle.words.specs.Polynomial.{poly}
 use Rattle.relation.specs.Vector.{Vect}
-use Rattle.row.specs.declared.Degree.{Degree}
-
--- the coefficients of a list, and zero past its end
-unfoldable pub poly : List ℕ → ℕ → ℕ
-poly l t = getD l t 0
+use Rattle.degree.specs.declared.Degree.{Degree}
 
 -- the vector whose entry k is part k: a row of entries of w words, or series of w words
 unfoldable pub vector : ℕ → List ℕ → Vect

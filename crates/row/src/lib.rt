@@ -1,18 +1,23 @@
 // Rows of polynomials as words: n entries of equal width, low coefficient first. Loops end at the pivot degrees.
 ghost use mathlib.Core.Path.{_≡_};
-ghost use Prim.Native.Nat.{ℕ, _+_, _*_, _-_, _%_, _<_, _≤_};
+ghost use Prim.Native.Nat.{ℕ, min, _+_, _*_, _-_, _%_, _<_, _≤_};
 ghost use lib.ListN.{length};
 ghost use Rattle.relation.specs.Product.{conv, dot};
-ghost use Rattle.relation.proofs.Vector.{addMultiple, timesX, unit};
-ghost use Rattle.row.specs.View.{poly, vector, row, degreeAt};
-ghost use Rattle.row.specs.Shape.{EndsAt, RowEndsAt, Below};
+ghost use Rattle.relation.specs.Operations.{addMultiple, timesX, unit};
+ghost use Rattle.words.specs.Polynomial.{poly};
+ghost use Rattle.row.specs.View.{vector, degreeAt};
+ghost use Rattle.row.specs.Shape.{EndsAt, RowEndsAt, Residues};
+use degree::Degree;
 use field::Field;
 
-// deg of document 000: the plain degree of an entry. It is never compared for the order of rows.
-pub struct Degree(pub usize);
+fn smaller(a: usize, b: usize) -> usize
+    ensures { λ r. ⌜ r ≡ min a b ⌝ }
+{
+    if a < b { a } else { b }
+}
 
-// The sum, plus the coefficient of X^at in entry * series. The entry ends at its degree.
-pub fn plus_entry_product(
+// The sum, plus the coefficient of X^at in entry * series. The entry ends at its degree, and no coefficient of the series past X^at counts.
+fn plus_entry_product(
     f: Field,
     sum: u32,
     entry: &[u32],
@@ -20,10 +25,10 @@ pub fn plus_entry_product(
     top: Degree,
     at: usize,
 ) -> u32
-    requires { ⌜ (sum < f .modulus) × (top .0 < length (now entry)) × (top .0 ≤ at) × (at < length (now series)) × EndsAt (poly (now entry)) (top .0) ⌝ }
+    requires { ⌜ (sum < f .modulus) × (at < length (now entry)) × (at < length (now series)) × EndsAt (poly (now entry)) (top .0) ⌝ }
     ensures { λ r. ⌜ r ≡ (sum + conv (poly (now (entry .entry))) (poly (now (series .entry))) at) % f .modulus ⌝ }
 {
-    let end = top.0 + 1;
+    let end = smaller(top.0, at) + 1;
     let mut total = sum;
     let mut t = 0;
     while t < end {
@@ -44,7 +49,6 @@ pub fn row_product(
     at: usize,
 ) -> u32
     requires { ⌜ (1 < f .modulus) × (n ≤ 8) × (at < s) × (s ≤ 255) × (length (now row) ≡ n * (s + 1)) × (length (now series) ≡ n * s) ⌝ }
-    requires { ⌜ ((k : ℕ) → k < n → degreeAt tops k ≤ at) ⌝ }
     requires { ⌜ RowEndsAt n (vector (s + 1) (now row)) (degreeAt tops) ⌝ }
     ensures { λ r. ⌜ r ≡ dot n (vector (s + 1) (now (row .entry))) (vector s (now (series .entry))) at % f .modulus ⌝ }
 {
@@ -67,9 +71,10 @@ pub fn row_product(
 }
 
 // c times an entry is added to another; it ends at its degree.
-pub fn add_multiple(f: Field, entry: &mut [u32], from: &[u32], c: u32, top: Degree)
+fn add_multiple(f: Field, entry: &mut [u32], from: &[u32], c: u32, top: Degree)
     requires { ⌜ (0 < f .modulus) × (top .0 < length (now entry)) × (top .0 < length (now from)) × ((t : ℕ) → poly (now entry) t < f .modulus) × EndsAt (poly (now from)) (top .0) ⌝ }
-    ensures { λ _. ⌜ (length (now (entry .exit)) ≡ length (now (entry .entry))) × ((t : ℕ) → poly (now (entry .exit)) t ≡ (poly (now (entry .entry)) t + c * poly (now (from .entry)) t) % f .modulus) ⌝ }
+    ensures { λ _. ⌜ (length (now (entry .exit)) ≡ length (now (entry .entry)))
+        × ((t : ℕ) → poly (now (entry .exit)) t ≡ (poly (now (entry .entry)) t + c * poly (now (from .entry)) t) % f .modulus) ⌝ }
 {
     let end = top.0 + 1;
     let mut t = 0;
@@ -91,9 +96,10 @@ fn add_entries(
 )
     requires { ⌜ (0 < f .modulus) × (n ≤ 8) × (length (now row) ≡ n * width) × (length (now from) ≡ n * width) ⌝ }
     requires { ⌜ ((k : ℕ) → k < n → degreeAt tops k < width) ⌝ }
-    requires { ⌜ Below (f .modulus) (vector width (now row)) ⌝ }
+    requires { ⌜ Residues (f .modulus) (vector width (now row)) ⌝ }
     requires { ⌜ RowEndsAt n (vector width (now from)) (degreeAt tops) ⌝ }
-    ensures { λ _. ⌜ (length (now (row .exit)) ≡ length (now (row .entry))) × (vector width (now (row .exit)) ≡ addMultiple (f .modulus) c (vector width (now (from .entry))) (vector width (now (row .entry)))) ⌝ }
+    ensures { λ _. ⌜ (length (now (row .exit)) ≡ length (now (row .entry)))
+        × (vector width (now (row .exit)) ≡ addMultiple (f .modulus) c (vector width (now (from .entry))) (vector width (now (row .entry)))) ⌝ }
 {
     let mut k = 0;
     while k < n {
@@ -123,9 +129,10 @@ pub fn add_row_multiple(
 )
     requires { ⌜ (0 < f .modulus) × (n ≤ 8) × (length (now row) ≡ n * width) × (length (now from) ≡ n * width) ⌝ }
     requires { ⌜ ((k : ℕ) → k < n → degreeAt tops k < width) ⌝ }
-    requires { ⌜ Below (f .modulus) (vector width (now row)) ⌝ }
+    requires { ⌜ Residues (f .modulus) (vector width (now row)) ⌝ }
     requires { ⌜ RowEndsAt n (vector width (now from)) (degreeAt tops) ⌝ }
-    ensures { λ _. ⌜ (length (now (row .exit)) ≡ length (now (row .entry))) × (vector width (now (row .exit)) ≡ addMultiple (f .modulus) c (vector width (now (from .entry))) (vector width (now (row .entry)))) ⌝ }
+    ensures { λ _. ⌜ (length (now (row .exit)) ≡ length (now (row .entry)))
+        × (vector width (now (row .exit)) ≡ addMultiple (f .modulus) c (vector width (now (from .entry))) (vector width (now (row .entry)))) ⌝ }
 {
     if c % f.modulus != 0 {
         add_entries(f, row, from, c, tops, n, width);
@@ -133,7 +140,7 @@ pub fn add_row_multiple(
 }
 
 // X times an entry whose last place is free.
-pub fn times_x(entry: &[u32], into: &mut [u32])
+fn times_x(entry: &[u32], into: &mut [u32])
     requires { ⌜ (0 < length (now entry)) × (length (now into) ≡ length (now entry)) × (poly (now entry) (length (now entry) - 1) ≡ 0) ⌝ }
     ensures { λ _. ⌜ (length (now (into .exit)) ≡ length (now (into .entry))) × ((t : ℕ) → poly (now (into .exit)) t ≡ timesX (λ _. poly (now (entry .entry))) 0 t) ⌝ }
 {

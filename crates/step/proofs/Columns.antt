@@ -1,7 +1,7 @@
 -- A loop that adds multiples of rows one by one: what is left of a coefficient, one row more, and a row that is left out.
-use mathlib.Core.Path.{_≡_, refl, ap, sym, _∙_, fun-ext}
+use mathlib.Core.Path.{_≡_, ap, sym, _∙_, fun-ext}
 use mathlib.Core.Logic.{_≢_}
-use Prim.Native.Nat.{ℕ, suc, _+_, _*_, _-_, _%_, _≤_, _<_}
+use Prim.Native.Nat.{ℕ, _+_, _*_, _-_, _<_}
 use native.Mathlib.Nat.{add-zero, zero-mul, mul-zero, mod-lt, mod-eq-of-lt}
 use native.Mathlib.Numerals.{add-one}
 use native.Mathlib.Decide.{ℕ-discrete}
@@ -9,8 +9,9 @@ use native.Mathlib.Omega.{arith}
 use Rattle.relation.specs.Sum.{sumTo}
 use Rattle.relation.specs.Vector.{Vect}
 use Rattle.relation.proofs.Sum.{sum-all-zero}
-use Rattle.relation.proofs.Vector.{addMultiple, addMultiples, addMultiples-more}
-use Rattle.relation.proofs.Existence.{pick, pick-yes, pick-no}
+use Rattle.relation.specs.Operations.{addMultiple, addMultiples}
+use Rattle.relation.proofs.Vector.{addMultiples-more}
+use Rattle.relation.proofs.Pick.{pick-yes, pick-no}
 use Rattle.step.specs.Factor.{columnFactor}
 
 pub addMultiples-below : (p N : ℕ) (a : ℕ → ℕ) (R : ℕ → Vect) (P : Vect) → 0 < p → (k t : ℕ) → addMultiples p N a R P k t < p

@@ -9,15 +9,16 @@ use native.Mathlib.Omega.{arith}
 use lib.ListN.{length}
 use Rattle.relation.specs.Vector.{Vect}
 use Rattle.relation.proofs.Sum.{sum-ext}
-use Rattle.relation.proofs.Vector.{addMultiple, addMultiples, timesX, zero-addMultiple}
-use Rattle.relation.proofs.Step.{clearedRow, movedRow}
+use Rattle.relation.specs.Operations.{addMultiple, addMultiples, timesX}
+use Rattle.relation.proofs.Vector.{zero-addMultiple}
+use Rattle.relation.specs.Moving.{clearedRow, movedRow}
 use Rattle.row.specs.View.{vector, row}
 use Rattle.words.proofs.Part.{put, put-same, put-other, part-fits}
-use Rattle.row.specs.Shape.{RowEndsAt, Below}
+use Rattle.row.specs.Shape.{RowEndsAt, Residues}
 use Rattle.step.specs.Factor.{columnFactor, BasisShape, Moved}
 use Rattle.step.proofs.Columns.{factor-own}
 
-pub times-x-below : (p : ℕ) (P : Vect) → 0 < p → Below p P → Below p (timesX P)
+pub times-x-below : (p : ℕ) (P : Vect) → 0 < p → Residues p P → Residues p (timesX P)
 unfolding timesX
 times-x-below p P h small k zero = h
 times-x-below p P h small k (suc t) = small k t

@@ -1,25 +1,25 @@
 -- From the parts of a step to the theorem: the shape of the rows, the factors that clear, and the basis of the next order.
-use mathlib.Core.Path.{_≡_, refl, ap, sym, _∙_, subst}
+use mathlib.Core.Path.{_≡_, refl, ap, sym, _∙_}
 use mathlib.Core.Logic.{_≢_}
 use mathlib.Core.List.{List}
 use Prim.Native.Nat.{ℕ, zero, suc, _+_, _*_, _-_, _%_, _≤_, _<_}
-use native.Mathlib.Nat.{add-mul, add-mod, add-mod-mod, mod-add-mod, mul-add, mul-assoc, mul-comm, mul-one, one-mul, zero-add, mod-self, mod-lt, mod-mod, add-comm, mul-mod-left, zero-mod}
+use native.Mathlib.Nat.{add-mul, add-mod, add-mod-mod, mod-add-mod, mul-assoc, mul-comm, one-mul, zero-add, mod-self}
 use native.Mathlib.Numerals.{add-one}
-use native.Mathlib.Decide.{ℕ-discrete}
 use native.Mathlib.Omega.{arith}
 use lib.ListN.{length, getD, set, replicate}
 use lib.Seq.{getD-set-same, getD-set-other}
 use Rattle.field.specs.Prime.{Prime}
 use Rattle.field.specs.Inverse.{Inverse}
-use Rattle.field.proofs.Residue.{mod-mul, mod-mul-left, mod-mul-right, mult-zero}
+use Rattle.field.proofs.Residue.{mod-mul-left, mod-mul-right, mult-zero}
 use Rattle.relation.specs.Product.{dot}
 use Rattle.relation.specs.Vector.{Vect}
-use Rattle.relation.proofs.Vector.{timesX}
-use Rattle.relation.proofs.Weight.{weight}
-use Rattle.relation.proofs.Basis.{ReducedBasis}
-use Rattle.relation.proofs.Step.{FirstRow, ClearsOrder, ClearsColumns, step, step-same}
+use Rattle.relation.specs.Operations.{timesX}
+use Rattle.relation.specs.Weight.{weight}
+use Rattle.relation.specs.ReducedBasis.{ReducedBasis}
+use Rattle.relation.specs.Moving.{FirstRow}
+use Rattle.relation.proofs.Step.{ClearsOrder, ClearsColumns, step, step-same}
 use Rattle.relation.proofs.Existence.{entry-short}
-use Rattle.row.specs.declared.Degree.{Degree}
+use Rattle.degree.specs.declared.Degree.{Degree}
 use Rattle.row.specs.View.{degreeAt}
 use Rattle.step.specs.Factor.{factor, columnFactor, BasisShape, Moved}
 use Rattle.step.proofs.Columns.{factor-own, factor-other}
@@ -86,8 +86,12 @@ raised tops i e h q = ap (λ (d : Degree). d .0) (getD-set-same tops i (record {
 pub kept : (tops : List Degree) (i l : ℕ) (d : Degree) → l ≢ i → degreeAt (set tops i d) l ≡ degreeAt tops l
 kept tops i l d ne = ap (λ (x : Degree). x .0) (getD-set-other tops i l d (record { 0 = 0 }) ne)
 
+-- a list of one value has it everywhere, and past its end
+pub replicate-all : {A : Type 0} (n l : ℕ) (a : A) → getD (replicate n a) l a ≡ a
+replicate-all zero l a = refl
+replicate-all (suc n) zero a = refl
+replicate-all (suc n) (suc l) a = replicate-all n l a
+
 -- at order 0 every pivot degree is 0
-pub no-degrees : (n l : ℕ) → getD (replicate n (degree 0)) l (degree 0) ≡ degree 0
-no-degrees zero l = refl
-no-degrees (suc n) zero = refl
-no-degrees (suc n) (suc l) = no-degrees n l
+pub no-degrees : (n l : ℕ) → degreeAt (replicate n (degree 0)) l ≡ 0
+no-degrees n l = ap (λ (d : Degree). d .0) (replicate-all n l (degree 0))

@@ -1,13 +1,14 @@
 -- The search for the least row, row by row: what the rows passed so far say of the best one.
-use mathlib.Core.Path.{_≡_, refl, sym, _∙_, subst}
+use mathlib.Core.Path.{_≡_, refl, subst}
 use mathlib.Core.Logic.{_≢_, _⊎_, inl, inr}
 use Prim.Native.Nat.{ℕ, _+_, _≤_, _<_}
 use native.Mathlib.Nat.{le-trans}
 use native.Mathlib.Decide.{ℕ-discrete}
 use native.Mathlib.Omega.{arith}
-use Rattle.relation.proofs.Weight.{weight, order→weight}
-use Rattle.relation.proofs.Step.{FirstRow}
-use Rattle.step.specs.Shift.{Nearer}
+use Rattle.relation.specs.Weight.{weight}
+use Rattle.relation.proofs.Weight.{order→weight}
+use Rattle.relation.specs.Moving.{FirstRow}
+use Rattle.step.specs.Search.{Nearer}
 
 module _ (n : ℕ) (flag b e : ℕ → ℕ) where
   abbrev heavy : ℕ → ℕ

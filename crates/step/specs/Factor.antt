@@ -4,10 +4,10 @@ use mathlib.Core.Logic.{_≢_}
 use Prim.Native.Nat.{ℕ, _+_, _*_, _-_, _%_, _<_}
 use native.Mathlib.Decide.{ℕ-discrete}
 use Rattle.relation.specs.Vector.{Vect}
-use Rattle.relation.proofs.Existence.{pick}
-use Rattle.relation.proofs.Vector.{timesX}
-use Rattle.relation.proofs.Step.{clearedRow, movedRow}
-use Rattle.row.specs.Shape.{RowEndsAt, Below}
+use Rattle.relation.specs.Pick.{pick}
+use Rattle.relation.specs.Operations.{timesX}
+use Rattle.relation.specs.Moving.{clearedRow, movedRow}
+use Rattle.row.specs.Shape.{RowEndsAt, Residues}
 
 -- c times h, where h is minus the inverse of the pivot row's coefficient
 unfoldable pub factor : ℕ → ℕ → (ℕ → ℕ) → ℕ → ℕ
@@ -19,7 +19,7 @@ columnFactor p i e X l = pick (ℕ-discrete l i) 0 (p - X l (e l))
 
 -- what the loops of a step need of the rows: words below p, entries that end at the pivot degrees, and other rows below the pivots
 pub record BasisShape (p n : ℕ) (Q : ℕ → Vect) (e : ℕ → ℕ) : Type 0 where
-  pub small : (l : ℕ) → l < n → Below p (Q l)
+  pub small : (l : ℕ) → l < n → Residues p (Q l)
   pub ends : (l : ℕ) → l < n → RowEndsAt n (Q l) e
   pub clear : (l k : ℕ) → l < n → k < n → l ≢ k → Q l k (e k) ≡ 0
 

@@ -1,4 +1,4 @@
 -- What the contracts of the step cite.
-pub mod Shift
+pub mod Offset
 pub mod Search
 pub mod Factor

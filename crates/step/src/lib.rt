@@ -1,42 +1,20 @@
 // From the reduced minimal basis of V_j to that of V_(j+1): document 000, Theorem 6, with the basis kept reduced at every order.
 ghost use mathlib.Core.Path.{_≡_};
-ghost use lib.Dec.{ltb};
 ghost use mathlib.Core.Logic.{_≢_};
 ghost use Prim.Native.Nat.{ℕ, _+_, _*_, _-_, _%_, _<_, _≤_};
 ghost use lib.ListN.{length, getD};
 ghost use Rattle.field.specs.Prime.{Prime};
 ghost use Rattle.relation.specs.Product.{dot};
-ghost use Rattle.relation.proofs.Vector.{addMultiple, addMultiples, unit};
-ghost use Rattle.relation.proofs.Basis.{ReducedBasis};
+ghost use Rattle.relation.specs.Operations.{addMultiple, addMultiples, unit};
+ghost use Rattle.relation.specs.ReducedBasis.{ReducedBasis};
 ghost use Rattle.row.specs.View.{vector, row as rowOf, degreeAt};
-ghost use Rattle.row.specs.Shape.{RowEndsAt, Below};
-ghost use Rattle.step.specs.Shift.{shift, rowWeight, Nearer, TypeWords, TopsWithin};
-ghost use Rattle.step.specs.Search.{LeastAmong};
+ghost use Rattle.row.specs.Shape.{RowEndsAt, Residues};
+ghost use Rattle.step.specs.Offset.{offsetOf, rowWeight, TypeWords, TopsWithin, TopsEndAt};
+ghost use Rattle.step.specs.Search.{LeastAmong, Nearer};
 ghost use Rattle.step.specs.Factor.{factor, columnFactor, BasisShape, Moved};
+use degree::Degree;
+use degree::ShiftedDegree;
 use field::Field;
-use row::Degree;
-
-// deg_d of document 000, the shifted degree of a row, with 255 added so that it is never negative.
-pub struct ShiftedDegree(pub usize);
-
-impl ShiftedDegree {
-    // Of a row of type entry d and pivot degree deg.
-    pub fn of(deg: Degree, d: u32) -> ShiftedDegree
-        requires { ⌜ (deg .0 ≤ 255) × (d ≤ 255) ⌝ }
-        ensures { λ r. ⌜ r .0 ≡ deg .0 + (255 - d) ⌝ }
-    {
-        let e = deg.0;
-        ShiftedDegree(e + (255 - d as usize))
-    }
-
-    pub fn is_below(self, other: ShiftedDegree) -> bool
-        ensures { λ r. ⌜ r ≡ ltb (self .0) (other .0) ⌝ }
-    {
-        let a = self.0;
-        let b = other.0;
-        a < b
-    }
-}
 
 pub enum Found {
     Row(usize),
@@ -46,17 +24,14 @@ pub enum Found {
 // The nearer of two rows: a lower shifted degree, and on a tie the row that was there. No row yet is the number n.
 fn nearer(best: usize, l: usize, tops: [Degree; 8], d: &[u32], n: usize) -> usize
     requires { ⌜ (n ≤ 8) × (l < n) × (best ≤ n) × TypeWords n (now d) × TopsWithin n 255 tops ⌝ }
-    ensures { λ r. ⌜ Nearer n (λ k. degreeAt tops k + shift (now (d .entry)) k) best l r ⌝ }
+    ensures { λ r. ⌜ Nearer n (λ k. degreeAt tops k + offsetOf (now (d .entry)) k) best l r ⌝ }
 {
     if best == n {
         return l;
     }
     let old = ShiftedDegree::of(tops[best], d[best]);
     let new = ShiftedDegree::of(tops[l], d[l]);
-    if new.is_below(old) {
-        return l;
-    }
-    best
+    if new.is_below(old) { l } else { best }
 }
 
 // The row of least shifted degree, then of least type, among those whose flag is not 0.
@@ -79,7 +54,7 @@ pub fn least_row(flags: [u32; 8], tops: [Degree; 8], d: &[u32], n: usize) -> Fou
 }
 
 // The coefficient of X^at in each row's sum of products with the series.
-pub fn coefficients(
+fn coefficients(
     f: Field,
     basis: &[u32],
     series: &[u32],
@@ -89,9 +64,9 @@ pub fn coefficients(
     at: usize,
 ) -> [u32; 8]
     requires { ⌜ (1 < f .modulus) × (n ≤ 8) × (at < s) × (s ≤ 255) × (length (now basis) ≡ n * (n * (s + 1))) × (length (now series) ≡ n * s) ⌝ }
-    requires { ⌜ TopsWithin n at tops ⌝ }
     requires { ⌜ ((l : ℕ) → l < n → RowEndsAt n (rowOf n (s + 1) (now basis) l) (degreeAt tops)) ⌝ }
-    ensures { λ r. ⌜ ((l : ℕ) → l < n → getD r l 0 ≡ dot n (rowOf n (s + 1) (now (basis .entry)) l) (vector s (now (series .entry))) at % f .modulus) ⌝ }
+    ensures { λ r. ⌜ ((l : ℕ) → l < n → getD r l 0 ≡ dot n (rowOf n (s + 1) (now (basis .entry)) l) (vector s (now (series .entry))) at % f .modulus)
+        × ((l : ℕ) → n ≤ l → getD r l 0 ≡ 0) ⌝ }
 {
     let size = n * (s + 1);
     let mut c = [0u32; 8];
@@ -103,8 +78,8 @@ pub fn coefficients(
     c
 }
 
-// Every row but i has its coefficient cleared by a multiple of the pivot row.
-pub fn clear_rows(
+// Every row but i has its coefficient cleared by a multiple of the pivot row; row i stays.
+fn clear_rows(
     f: Field,
     basis: &mut [u32],
     pivot: &[u32],
@@ -115,11 +90,14 @@ pub fn clear_rows(
     n: usize,
     width: usize,
 )
-    requires { ⌜ (0 < f .modulus) × (n ≤ 8) × (width ≤ 256) × (length (now basis) ≡ n * (n * width)) × (length (now pivot) ≡ n * width) ⌝ }
+    requires { ⌜ (0 < f .modulus) × (n ≤ 8) × (i < n) × (width ≤ 256) × (length (now basis) ≡ n * (n * width)) × (length (now pivot) ≡ n * width) ⌝ }
     requires { ⌜ ((k : ℕ) → k < n → degreeAt tops k < width) ⌝ }
-    requires { ⌜ ((l : ℕ) → l < n → Below (f .modulus) (rowOf n width (now basis) l)) ⌝ }
+    requires { ⌜ ((l : ℕ) → l < n → Residues (f .modulus) (rowOf n width (now basis) l)) ⌝ }
     requires { ⌜ RowEndsAt n (vector width (now pivot)) (degreeAt tops) ⌝ }
-    ensures { λ _. ⌜ (length (now (basis .exit)) ≡ length (now (basis .entry))) × ((l : ℕ) → l < n → l ≢ i → rowOf n width (now (basis .exit)) l ≡ addMultiple (f .modulus) (factor (f .modulus) h (λ k. getD c k 0) l) (vector width (now (pivot .entry))) (rowOf n width (now (basis .entry)) l)) ⌝ }
+    ensures { λ _. ⌜ (length (now (basis .exit)) ≡ length (now (basis .entry)))
+        × ((l : ℕ) → l < n → l ≢ i → rowOf n width (now (basis .exit)) l
+        ≡ addMultiple (f .modulus) (factor (f .modulus) h (λ k. getD c k 0) l) (vector width (now (pivot .entry))) (rowOf n width (now (basis .entry)) l))
+        × (rowOf n width (now (basis .exit)) i ≡ rowOf n width (now (basis .entry)) i) ⌝ }
 {
     let size = n * width;
     let mut l = 0;
@@ -135,7 +113,7 @@ pub fn clear_rows(
 }
 
 // Every column but i of X times the pivot row is cleared by a multiple of the row of that type.
-pub fn clear_columns(
+fn clear_columns(
     f: Field,
     moved: &mut [u32],
     basis: &[u32],
@@ -146,10 +124,12 @@ pub fn clear_columns(
 )
     requires { ⌜ (0 < f .modulus) × (n ≤ 8) × (width ≤ 256) × (length (now basis) ≡ n * (n * width)) × (length (now moved) ≡ n * width) ⌝ }
     requires { ⌜ ((k : ℕ) → k < n → degreeAt tops k < width) ⌝ }
-    requires { ⌜ Below (f .modulus) (vector width (now moved)) ⌝ }
+    requires { ⌜ Residues (f .modulus) (vector width (now moved)) ⌝ }
     requires { ⌜ ((l : ℕ) → l < n → l ≢ i → RowEndsAt n (rowOf n width (now basis) l) (degreeAt tops)) ⌝ }
     requires { ⌜ ((l k : ℕ) → l < n → k < n → l ≢ i → k ≢ i → l ≢ k → rowOf n width (now basis) l k (degreeAt tops k) ≡ 0) ⌝ }
-    ensures { λ _. ⌜ (length (now (moved .exit)) ≡ length (now (moved .entry))) × (vector width (now (moved .exit)) ≡ addMultiples (f .modulus) n (columnFactor (f .modulus) i (degreeAt tops) (vector width (now (moved .entry)))) (rowOf n width (now (basis .entry))) (vector width (now (moved .entry)))) ⌝ }
+    ensures { λ _. ⌜ (length (now (moved .exit)) ≡ length (now (moved .entry)))
+        × (vector width (now (moved .exit))
+        ≡ addMultiples (f .modulus) n (columnFactor (f .modulus) i (degreeAt tops) (vector width (now (moved .entry)))) (rowOf n width (now (basis .entry))) (vector width (now (moved .entry)))) ⌝ }
 {
     let p = f.modulus;
     let size = n * width;
@@ -183,7 +163,8 @@ fn move_by(
     requires { ⌜ ((k : ℕ) → k < n → degreeAt tops k + 1 < width) ⌝ }
     requires { ⌜ BasisShape (f .modulus) n (rowOf n width (now basis)) (degreeAt tops) ⌝ }
     requires { ⌜ vector width (now pivot) ≡ rowOf n width (now basis) i ⌝ }
-    ensures { λ _. ⌜ (length (now (basis .exit)) ≡ length (now (basis .entry))) × Moved (f .modulus) n (factor (f .modulus) h (λ k. getD c k 0)) (degreeAt tops) i (rowOf n width (now (basis .entry))) (rowOf n width (now (basis .exit))) ⌝ }
+    ensures { λ _. ⌜ (length (now (basis .exit)) ≡ length (now (basis .entry)))
+        × Moved (f .modulus) n (factor (f .modulus) h (λ k. getD c k 0)) (degreeAt tops) i (rowOf n width (now (basis .entry))) (rowOf n width (now (basis .exit))) ⌝ }
 {
     clear_rows(f, basis, pivot, c, h, i, tops, n, width);
     row::row_times_x(pivot, moved, n, width);
@@ -208,7 +189,8 @@ fn move_row(
     requires { ⌜ (0 < f .modulus) × (n ≤ 8) × (i < n) × (width ≤ 256) × (length (now basis) ≡ n * (n * width)) ⌝ }
     requires { ⌜ ((k : ℕ) → k < n → degreeAt tops k + 1 < width) ⌝ }
     requires { ⌜ BasisShape (f .modulus) n (rowOf n width (now basis)) (degreeAt tops) ⌝ }
-    ensures { λ _. ⌜ (length (now (basis .exit)) ≡ length (now (basis .entry))) × Moved (f .modulus) n (factor (f .modulus) h (λ k. getD c k 0)) (degreeAt tops) i (rowOf n width (now (basis .entry))) (rowOf n width (now (basis .exit))) ⌝ }
+    ensures { λ _. ⌜ (length (now (basis .exit)) ≡ length (now (basis .entry)))
+        × Moved (f .modulus) n (factor (f .modulus) h (λ k. getD c k 0)) (degreeAt tops) i (rowOf n width (now (basis .entry))) (rowOf n width (now (basis .exit))) ⌝ }
 {
     let size = n * width;
     let mut pivot = [0u32; 2048];
@@ -229,7 +211,7 @@ fn move_row(
 }
 
 // One order more: the reduced minimal basis of V_(at+1) from that of V_at, in place. The answer has the new pivot degrees.
-pub fn step(
+fn step(
     f: Field,
     basis: &mut [u32],
     d: &[u32],
@@ -240,8 +222,10 @@ pub fn step(
     at: usize,
 ) -> [Degree; 8]
     requires { ⌜ Prime (f .modulus) × (n ≤ 8) × (at < s) × (s ≤ 255) × TypeWords n (now d) × (length (now series) ≡ n * s) × (length (now basis) ≡ n * (n * (s + 1))) ⌝ }
-    requires { ⌜ ReducedBasis (f .modulus) n (shift (now d)) (vector s (now series)) at (rowOf n (s + 1) (now basis)) (degreeAt tops) ⌝ }
-    ensures { λ r. ⌜ (length (now (basis .exit)) ≡ length (now (basis .entry))) × ReducedBasis (f .modulus) n (shift (now (d .entry))) (vector s (now (series .entry))) (at + 1) (rowOf n (s + 1) (now (basis .exit))) (degreeAt r) ⌝ }
+    requires { ⌜ ReducedBasis (f .modulus) n (offsetOf (now d)) (vector s (now series)) at (rowOf n (s + 1) (now basis)) (degreeAt tops) ⌝ }
+    ensures { λ r. ⌜ (length (now (basis .exit)) ≡ length (now (basis .entry)))
+        × ReducedBasis (f .modulus) n (offsetOf (now (d .entry))) (vector s (now (series .entry))) (at + 1) (rowOf n (s + 1) (now (basis .exit))) (degreeAt r)
+        × ((l : ℕ) → n ≤ l → degreeAt r l ≡ degreeAt tops l) ⌝ }
 {
     let width = s + 1;
     let c = coefficients(f, basis, series, tops, n, s, at);
@@ -261,21 +245,21 @@ pub fn step(
 }
 
 // The identity, the basis of V_0.
-pub fn identity(basis: &mut [u32], n: usize, width: usize)
+fn identity(basis: &mut [u32], n: usize, width: usize)
     requires { ⌜ (n ≤ 8) × (0 < width) × (width ≤ 256) × (length (now basis) ≡ n * (n * width)) ⌝ }
     ensures { λ _. ⌜ (length (now (basis .exit)) ≡ length (now (basis .entry))) × ((l : ℕ) → l < n → rowOf n width (now (basis .exit)) l ≡ unit l) ⌝ }
 {
     let size = n * width;
-    let mut l = 0;
-    while l < n {
-        let start = l * size;
+    let mut i = 0;
+    while i < n {
+        let start = i * size;
         let end = start + size;
-        row::unit_row(&mut basis[start..end], l, n, width);
-        l += 1;
+        row::unit_row(&mut basis[start..end], i, n, width);
+        i += 1;
     }
 }
 
-// The reduced minimal basis of V_s: one step for each order. The answer has the pivot degrees.
+// The reduced minimal basis of V_s: one step for each order. The answer has the pivot degrees, and 0 past them.
 pub fn reduced_basis(
     f: Field,
     n: usize,
@@ -285,7 +269,9 @@ pub fn reduced_basis(
     out: &mut [u32],
 ) -> [Degree; 8]
     requires { ⌜ Prime (f .modulus) × (n ≤ 8) × (s ≤ 255) × TypeWords n (now d) × (length (now series) ≡ n * s) × (length (now out) ≡ n * (n * (s + 1))) ⌝ }
-    ensures { λ r. ⌜ (length (now (out .exit)) ≡ length (now (out .entry))) × ReducedBasis (f .modulus) n (shift (now (d .entry))) (vector s (now (series .entry))) s (rowOf n (s + 1) (now (out .exit))) (degreeAt r) ⌝ }
+    ensures { λ r. ⌜ (length (now (out .exit)) ≡ length (now (out .entry)))
+        × ReducedBasis (f .modulus) n (offsetOf (now (d .entry))) (vector s (now (series .entry))) s (rowOf n (s + 1) (now (out .exit))) (degreeAt r)
+        × TopsEndAt n r ⌝ }
 {
     identity(out, n, s + 1);
     let mut tops = [Degree(0); 8];

@@ -27,8 +27,8 @@ fn found(least: u32, count: u32) {
 
 fn whole(answer: BasisAnswer, words: &[u32], n: u32, s: u32) {
     match answer {
-        BasisAnswer::Found { least, count } => {
-            found(least, count);
+        BasisAnswer::Found(r) => {
+            found(r.least, r.count);
             pivots(words, n, s);
             checks(b" checks", words);
             text(b"\n");
@@ -125,8 +125,8 @@ fn rest(terms: u32, k: u32) -> u32 {
 
 fn short(answer: BasisAnswer, words: &[u32]) {
     match answer {
-        BasisAnswer::Found { least, count } => {
-            found(least, count);
+        BasisAnswer::Found(r) => {
+            found(r.least, r.count);
             text(b"\n");
         }
         BasisAnswer::Refused(k) => refused(k, all_are(words, 77)),

@@ -1,4 +1,5 @@
 -- How lent words are read.
 pub mod Part
+pub mod Polynomial
 pub mod Some
 pub mod Within

@@ -13,13 +13,17 @@ word-at-requires : tie.Need-word-at-requires
 word-at-requires c κs = search needs
 
 returns : tie.Need-returns
-returns c = (λ t. absurd (false≢true t), λ s. absurd (c .if1 .taken (c .before .word-at .ensures ∙ s .a-right ∙ ap (λ (r : Checks). r .a) (sym (c .before .before .checks-of .ensures)))))
+returns c =
+    let right = sym (c .before .before .checks-of .ensures) in
+    (λ t. absurd (false≢true t), λ s. absurd (c .if1 .taken (c .before .word-at .ensures ∙ s .a-right ∙ ap (λ (r : Checks). r .a) right)))
 
 word-at-requires-2 : tie.Need-word-at-requires-2
 word-at-requires-2 c κs = search needs
 
 returns-2 : tie.Need-returns-2
-returns-2 c = (λ t. absurd (false≢true t), λ s. absurd (c .if2 .taken (c .before .word-at2 .ensures ∙ s .b-right ∙ ap (λ (r : Checks). r .b) (sym (c .before .before .before .before .checks-of .ensures)))))
+returns-2 c =
+    let right = sym (c .before .before .before .before .checks-of .ensures) in
+    (λ t. absurd (false≢true t), λ s. absurd (c .if2 .taken (c .before .word-at2 .ensures ∙ s .b-right ∙ ap (λ (r : Checks). r .b) right)))
 
 returns-3 : tie.Need-returns-3
 returns-3 c =

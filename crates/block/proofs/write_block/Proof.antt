@@ -47,7 +47,12 @@ loop-again c =
     let head = c .before .before .before .before .before .before in
     let start = head .before .before .before .before .before .before .before in
     let e = c .before .before .store-word2 .ensures in
-    (omega arith, omega arith, rw e (filled (start .args .number) (start .args .words .now) (head .loop .block) (head .loop .i) _ (omega arith) (head .loop .inv .1) (c .before .before .before .word-or-zero .ensures) (head .loop .inv .2)))
+    let loop = head .loop in
+    let word = c .before .before .before .word-or-zero .ensures in (
+      omega arith,
+      omega arith,
+      rw e (filled (start .args .number) (start .args .words .now) (loop .block) (loop .i) _ (omega arith) (loop .inv .1) word (loop .inv .2)),
+    )
 
 seal-requires : tie.Need-seal-requires Inv-loop μ-loop
 seal-requires c κs = omega arith
@@ -57,9 +62,10 @@ same-length c = omega arith
 
 returns : tie.Need-returns Inv-loop μ-loop
 returns c =
-    let start = c .before .before .before .before .before .before .before .before .before .before .before .before in
-    let loop = c .before .before .before .before .before .loop in
-    let known = c .before .before .before .before .before .before .before .before .before .before in
+    let head = c .before .before .before .before .before in
+    let known = head .before .before .before .before .before in
+    let start = known .before .before in
+    let loop = head .loop in
     let e : loop .i ≡ 125 = omega arith in
     c .before .before .seal .ensures
     ∙ sealed-block (start .args .number) (start .args .words .now) (start .fits .number .fits) (λ j. known .shared-slice-known .given j .fits)

@@ -17,9 +17,6 @@ array-share-prefix-file c = search needs
 slice-aggregate-text-length : tie.Need-slice-aggregate-text-length
 slice-aggregate-text-length c = search needs
 
-slice-aggregate-text-length-2 : tie.Need-slice-aggregate-text-length-2
-slice-aggregate-text-length-2 c = search needs
-
 text-length-requires : tie.Need-text-length-requires
 text-length-requires c κs = search needs
 
@@ -27,7 +24,7 @@ array-share-prefix-text : tie.Need-array-share-prefix-text
 array-share-prefix-text c = search needs
 
 slice-aggregate-write-all : tie.Need-slice-aggregate-write-all
-slice-aggregate-write-all c = sym (length-take-le _ _ (c .before .before .text-length .ensures))
+slice-aggregate-write-all c = sym (length-take-le _ _ (c .before .text-length .ensures .inside))
 
 write-all-requires : tie.Need-write-all-requires
 write-all-requires c κs = search needs
@@ -43,7 +40,6 @@ print-from-spec =
     read-full-requires
     array-share-prefix-file
     slice-aggregate-text-length
-    slice-aggregate-text-length-2
     text-length-requires
     array-share-prefix-text
     slice-aggregate-write-all

@@ -17,7 +17,10 @@ same-length : tie.Need-same-length
 same-length c = search needs
 
 returns-2 : tie.Need-returns-2
-returns-2 c = given _ _ _ _ _ _ _ (c .before .before .before .before .before .if1 .left) (c .before .before .before .before .add .ensures) (c .before .before .tell-residue .ensures)
+returns-2 c =
+    let at-tell = c .before .before in
+    let at-call = at-tell .before .before in
+    given _ _ _ _ _ _ _ (at-call .before .if1 .left) (at-call .add .ensures) (at-tell .tell-residue .ensures)
 
 pub relations-add-spec : {M : Type 1} → statement M
 relations-add-spec =

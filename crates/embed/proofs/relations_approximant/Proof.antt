@@ -21,7 +21,10 @@ same-length-2 : tie.Need-same-length-2
 same-length-2 c = search needs
 
 returns-2 : tie.Need-returns-2
-returns-2 c = given _ _ _ _ _ _ _ (c .before .before .before .before .before .before .before .before .if1 .left) (c .before .before .before .before .before .before .approximant .ensures) (c .before .before .tell-basis .ensures)
+returns-2 c =
+    let at-tell = c .before .before in
+    let at-call = at-tell .before .before .before .before in
+    given _ _ _ _ _ _ _ (at-call .before .before .if1 .left) (at-call .approximant .ensures) (at-tell .tell-basis .ensures)
 
 pub relations-approximant-spec : {M : Type 1} → statement M
 relations-approximant-spec =

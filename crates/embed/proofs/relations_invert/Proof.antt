@@ -17,7 +17,10 @@ same-length : tie.Need-same-length
 same-length c = search needs
 
 returns-2 : tie.Need-returns-2
-returns-2 c = given _ _ _ _ _ _ _ (c .before .before .before .before .before .if1 .left) (c .before .before .before .before .invert .ensures) (c .before .before .tell-inverse .ensures)
+returns-2 c =
+    let at-tell = c .before .before in
+    let at-call = at-tell .before .before in
+    given _ _ _ _ _ _ _ (at-call .before .if1 .left) (at-call .invert .ensures) (at-tell .tell-inverse .ensures)
 
 pub relations-invert-spec : {M : Type 1} → statement M
 relations-invert-spec =

@@ -13,7 +13,9 @@ print-job-requires : tie.Need-print-job-requires
 print-job-requires c κs = search needs
 
 tell-text-requires : tie.Need-tell-text-requires
-tell-text-requires c κs = (c .before .before .before .before .before .if1 .left, print-text-fits _ _ _ (c .before .before .before .print-job .result) (search needs) (c .before .before .before .print-job .ensures))
+tell-text-requires c κs =
+    let at-call = c .before .before .before in
+    (at-call .before .before .if1 .left, print-text-fits _ _ _ (at-call .print-job .result) (search needs) (at-call .print-job .ensures))
 
 same-length : tie.Need-same-length
 same-length c = search needs
@@ -22,7 +24,10 @@ same-length-2 : tie.Need-same-length-2
 same-length-2 c = search needs
 
 returns-2 : tie.Need-returns-2
-returns-2 c = given _ _ _ _ _ _ _ (c .before .before .before .before .before .before .before .before .if1 .left) (c .before .before .before .before .before .before .print-job .ensures) (c .before .before .tell-text .ensures)
+returns-2 c =
+    let at-tell = c .before .before in
+    let at-call = at-tell .before .before .before .before in
+    given _ _ _ _ _ _ _ (at-call .before .before .if1 .left) (at-call .print-job .ensures) (at-tell .tell-text .ensures)
 
 pub relations-print-spec : {M : Type 1} → statement M
 relations-print-spec =

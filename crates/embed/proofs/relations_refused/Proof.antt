@@ -13,7 +13,9 @@ write-refusal-requires : tie.Need-write-refusal-requires
 write-refusal-requires c κs = search needs
 
 tell-text-requires : tie.Need-tell-text-requires
-tell-text-requires c κs = (c .before .before .before .before .before .if1 .left, refusal-text-fits _ _ _ (c .before .before .before .write-refusal .result) (search needs) (c .before .before .before .write-refusal .ensures))
+tell-text-requires c κs =
+    let at-call = c .before .before .before in
+    (at-call .before .before .if1 .left, refusal-text-fits _ _ _ (at-call .write-refusal .result) (search needs) (at-call .write-refusal .ensures))
 
 same-length : tie.Need-same-length
 same-length c = search needs
@@ -22,7 +24,10 @@ same-length-2 : tie.Need-same-length-2
 same-length-2 c = search needs
 
 returns-2 : tie.Need-returns-2
-returns-2 c = given _ _ _ _ _ _ _ (c .before .before .before .before .before .before .before .before .if1 .left) (c .before .before .before .before .before .before .write-refusal .ensures) (c .before .before .tell-text .ensures)
+returns-2 c =
+    let at-tell = c .before .before in
+    let at-call = at-tell .before .before .before .before in
+    given _ _ _ _ _ _ _ (at-call .before .before .if1 .left) (at-call .write-refusal .ensures) (at-tell .tell-text .ensures)
 
 pub relations-refused-spec : {M : Type 1} → statement M
 relations-refused-spec =

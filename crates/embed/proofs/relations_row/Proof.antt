@@ -51,7 +51,8 @@ returns-2 c =
     let at-row-view = c .before .before in
     let at-if1 = at-row-view .before in
     let start = at-if1 .before .before .before in
-    given _ _ _ _ _ _ _ (at-if1 .if1 .left) (row-said (at-row-view .row-view .ensures) _ (start-is c)) (refl, all-set (start .args .answer .now) (c .before .if2 .start ∷ length (at-row-view .row-view .result .now) ∷ []) (at-if1 .if1 .left))
+    let words = c .before .if2 .start ∷ length (at-row-view .row-view .result .now) ∷ [] in
+    given _ _ _ _ _ _ _ (at-if1 .if1 .left) (row-said (at-row-view .row-view .ensures) _ (start-is c)) (refl, all-set (start .args .answer .now) words (at-if1 .if1 .left))
 
 pub relations-row-spec : {M : Type 1} → statement M
 relations-row-spec =

@@ -22,7 +22,10 @@ same-length : tie.Need-same-length
 same-length c = search needs
 
 returns : tie.Need-returns
-returns c = rw (c .before .r .given .1) (refl, all-set (c .before .before .before .args .answer .now) (c .before .r .given .0 .0 ∷ c .before .r .given .0 .1 .0 ∷ []) (c .before .before .before .pre))
+returns c =
+    let start = c .before .before .before in
+    let found = c .before .r .given .0 .0 in
+    rw (c .before .r .given .1) (refl, all-set (start .args .answer .now) (found .least ∷ found .count ∷ []) (start .pre))
 
 returns-2 : tie.Need-returns-2
 returns-2 c = search needs

@@ -1,7 +1,5 @@
 -- The three words of a job are written; on a slip none is.
 use mathlib.Core.Path.{refl}
-use mathlib.Core.List.{[], _∷_}
-use Rattle.embed.proofs.Words.{all-set}
 use borrow.Author.Needs.{needs}
 use Rattle.embed.proofs.tell_parsed.Statement.{statement}
 use Rattle.embed.proofs.tell_parsed.Tie as tie
@@ -9,14 +7,8 @@ use Rattle.embed.proofs.tell_parsed.Tie as tie
 enum-known-r : tie.Need-enum-known-r
 enum-known-r c = search needs
 
-slice-write-answer : tie.Need-slice-write-answer
-slice-write-answer c = search needs
-
-slice-write-answer-2 : tie.Need-slice-write-answer-2
-slice-write-answer-2 c = search needs
-
-slice-write-answer-3 : tie.Need-slice-write-answer-3
-slice-write-answer-3 c = search needs
+tell-sizes-requires : tie.Need-tell-sizes-requires
+tell-sizes-requires c κs = search needs
 
 enum-known-r-2 : tie.Need-enum-known-r-2
 enum-known-r-2 c = search needs
@@ -28,7 +20,7 @@ same-length : tie.Need-same-length
 same-length c = search needs
 
 returns : tie.Need-returns
-returns c = rw (c .before .r .given .1) (refl, all-set (c .before .before .before .before .args .answer .now) (c .before .r .given .0 .0 ∷ c .before .r .given .0 .1 .0 ∷ c .before .r .given .0 .1 .1 .0 ∷ []) (c .before .before .before .before .pre))
+returns c = rw (c .before .before .before .before .before .r .given .1) (refl, c .before .before .tell-sizes .ensures)
 
 returns-2 : tie.Need-returns-2
 returns-2 c = search needs
@@ -36,13 +28,4 @@ returns-2 c = search needs
 pub tell-parsed-spec : {M : Type 1} → statement M
 tell-parsed-spec =
     tie.close
-    (tie.spec
-    enum-known-r
-    slice-write-answer
-    slice-write-answer-2
-    slice-write-answer-3
-    enum-known-r-2
-    slip-status-requires
-    same-length
-    returns
-    returns-2)
+    (tie.spec enum-known-r tell-sizes-requires enum-known-r-2 slip-status-requires same-length returns returns-2)

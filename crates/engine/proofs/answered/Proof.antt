@@ -1,6 +1,6 @@
 -- The answer's two numbers are small: the row is below 8, and at most s orders are counted.
 use native.Mathlib.Omega.{arith}
-use Rattle.engine.proofs.Work.{count-le}
+use Rattle.solve.proofs.Work.{count-le}
 use borrow.Author.Needs.{needs}
 use Rattle.engine.proofs.answered.Statement.{statement}
 use Rattle.engine.proofs.answered.Tie as tie
@@ -15,7 +15,9 @@ cast-t11 : tie.Need-cast-t11
 cast-t11 c = search needs
 
 cast-t12 : tie.Need-cast-t12
-cast-t12 c = omega (arith, count-le (c .before .before .before .before .solve .ensures .shrinks), c .before .before .before .before .before .before .before .before .before .pre .s-to)
+cast-t12 c =
+    let made = c .before .before .before .before in
+    omega (arith, count-le (made .solve .ensures .shrinks), made .before .before .before .before .before .pre .s-to)
 
 same-length : tie.Need-same-length
 same-length c = search needs

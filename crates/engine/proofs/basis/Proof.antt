@@ -1,5 +1,4 @@
 -- Where the tests pass, the basis is worked out; a refusal writes nothing.
-use mathlib.Core.Path.{refl}
 use Rattle.field.proofs.Tests.{passed, answers, refuses}
 use Rattle.engine.specs.Basis.{BasisOutcome}
 use Rattle.engine.proofs.Admitted.{basis-sizes}
@@ -24,11 +23,14 @@ same-length c = search needs
 
 returns : tie.Need-returns
 unfolding BasisOutcome
-returns c = answers _ _ _ _ (c .before .before .before .before .before .before .test-basis .ensures) (c .before .before .before .before .enum-told .given .1) (c .before .before .answered .ensures)
+returns c =
+    let answered = c .before .before in
+    let told = answered .before .before in
+    answers _ _ _ _ (told .before .before .test-basis .ensures) (told .enum-told .given .1) (answered .answered .ensures)
 
 returns-2 : tie.Need-returns-2
 unfolding BasisOutcome
-returns-2 c = refuses _ _ _ _ (c .before .before .before .test-basis .ensures) _ (c .before .k .given .1) (refl, refl)
+returns-2 c = search (needs, refuses)
 
 pub basis-spec : {M : Type 1} → statement M
 basis-spec =

@@ -35,7 +35,7 @@ returns c =
 
 returns-2 : tie.Need-returns-2
 unfolding PairOutcome
-returns-2 c = refuses _ _ _ _ (c .before .before .before .test-pair .ensures) _ (c .before .j .given .1) (refl, refl, refl)
+returns-2 c = search (needs, refuses)
 
 pub pair-spec : {M : Type 1} → statement M
 pair-spec =

@@ -1,7 +1,13 @@
 -- The words are cleared, the first is set to -1, and g is copied after them.
-use mathlib.Core.Path.{refl, _∙_}
+use mathlib.Core.Path.{_≡_, refl, _∙_}
+use mathlib.Core.List.{List}
+use Prim.Native.Nat.{ℕ, _+_, _-_}
 use native.Mathlib.Omega.{arith}
-use lib.ListN.{length, length-set}
+use lib.ListN.{length, set, length-set}
+use borrow.Rule.Slice.PartMut.{putMid}
+use Rattle.relation.specs.Pair.{pairSeries}
+use Rattle.words.specs.Polynomial.{poly}
+use Rattle.row.specs.View.{vector}
 use Rattle.engine.proofs.Series.{pair-length, pair-words}
 use borrow.Author.Needs.{needs}
 use Rattle.engine.proofs.pair_series.Statement.{statement}
@@ -34,20 +40,34 @@ part-copy-end c = simp length-set (omega (arith, c .before .before .before .fill
 copy-requires : tie.Need-copy-requires
 copy-requires c κs = search needs
 
+abbrev cleared : tie.After-copy → tie.After-fill-zero
+cleared c = c .before .before .before .before .before
+
+abbrev start : tie.After-copy → tie.Start
+start c = cleared c .before .before .before .before
+
+-- the words that are left: g stands after the first series
+abbrev left : tie.After-copy → List ℕ
+left c =
+    let g = start c .args .g .now in
+    putMid (length g) (length g + length g - length g) (set (cleared c .fill-zero .last .0) 0 (start c .args .f .modulus - 1)) g
+
+written : (c : tie.After-copy) →
+    let a = start c .args in
+    (length (left c) ≡ length (a .series .now)) × (vector (length (a .g .now)) (left c) ≡ pairSeries (a .f .modulus) (poly (a .g .now)))
+written c =
+    let a = start c .args in
+    let z = cleared c .fill-zero in
+    let full = z .ensures .0 ∙ start c .pre .3 in
+    let size = pair-length (a .f .modulus) (length (a .g .now)) (z .last .0) (a .g .now) (start c .pre .1) refl full (z .ensures .1) in
+    let words = pair-words (a .f .modulus) (length (a .g .now)) (z .last .0) (a .g .now) (start c .pre .1) refl full (z .ensures .1) in
+    (size ∙ z .ensures .0, words)
+
 same-length : tie.Need-same-length
-same-length c =
-    let z = c .before .before .before .before .before .before .before .fill-zero in
-    let a = c .before .before .before .before .before .before .before .before .before .before .before .args in
-    let hN = c .before .before .before .before .before .before .before .before .before .before .before .pre in
-    rw (c .before .before .copy .ensures) (pair-length (a .f .modulus) (length (a .g .now)) (z .last .0) (a .g .now) (hN .1) refl (z .ensures .0 ∙ hN .3) (z .ensures .1) ∙ z .ensures .0)
+same-length c = rw (c .before .before .copy .ensures) (written (c .before .before) .0)
 
 returns : tie.Need-returns
-returns c =
-    let z = c .before .before .before .before .before .before .before .fill-zero in
-    let a = c .before .before .before .before .before .before .before .before .before .before .before .args in
-    let hN = c .before .before .before .before .before .before .before .before .before .before .before .pre in
-    let full = z .ensures .0 ∙ hN .3 in
-    rw (c .before .before .copy .ensures) (pair-length (a .f .modulus) (length (a .g .now)) (z .last .0) (a .g .now) (hN .1) refl full (z .ensures .1) ∙ z .ensures .0, pair-words (a .f .modulus) (length (a .g .now)) (z .last .0) (a .g .now) (hN .1) refl full (z .ensures .1))
+returns c = rw (c .before .before .copy .ensures) (written (c .before .before))
 
 pub pair-series-spec : {M : Type 1} → statement M
 pair-series-spec =

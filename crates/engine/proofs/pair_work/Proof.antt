@@ -1,12 +1,31 @@
 -- The least row of the two series, cut to the lengths of r and t.
 use mathlib.Core.Path.{refl, _∙_}
-use Prim.Native.Nat.{_+_}
+use Prim.Native.Nat.{_+_, _*_, _≤_}
 use native.Mathlib.Omega.{arith}
 use lib.ListN.{length}
-use Rattle.engine.proofs.PairWork.{entries-small, row-start, pair-written}
+use Rattle.engine.specs.PairSizes.{PairSizes}
+use Rattle.engine.proofs.PairWork.{entries-admitted, row-start, pair-written}
 use borrow.Author.Needs.{needs}
 use Rattle.engine.proofs.pair_work.Statement.{statement}
 use Rattle.engine.proofs.pair_work.Tie as tie
+
+-- the places before the work on the basis
+abbrev start : tie.After-pair-series → tie.Start
+start c = c .before .before .before .before .before .before .before
+
+abbrev series-at : tie.After-solve → tie.After-pair-series
+series-at c = c .before .before .before .before .before .before
+
+sizes : (c : tie.After-solve) →
+    let a = start (series-at c) .args in
+    PairSizes (a .f .modulus) (a .k) (a .g .now) (length (a .r .now)) (length (a .t .now))
+sizes c = start (series-at c) .pre .0
+
+-- the least row of the two begins within the basis
+row-within : (c : tie.After-solve) →
+    let w = length (start (series-at c) .args .g .now) + 1 in
+    c .solve .result .least * (2 * w) ≤ 2 * w
+row-within c = row-start (c .solve .result .least) (length (start (series-at c) .args .g .now) + 1) (c .solve .ensures .least-row .row)
 
 add-width : tie.Need-add-width
 add-width c = search needs
@@ -31,7 +50,8 @@ slice-aggregate-solve c = search needs
 
 solve-requires : tie.Need-solve-requires
 solve-requires c κs =
-    let s = c .before .before .before .before .before .before .before .before .before .before .before .before in
+    let written = c .before .before .before .before .before in
+    let s = start written in
     let z = s .pre .0 in
     record {
       modulus = z .modulus;
@@ -39,9 +59,9 @@ solve-requires c κs =
       n-to = omega arith;
       s-to = z .n-to;
       type-words = refl;
-      series-words = c .before .before .before .before .before .pair-series .ensures .0 ∙ s .pre .1 .0;
+      series-words = written .pair-series .ensures .0 ∙ s .pre .1 .0;
       basis-words = s .pre .1 .1;
-      entries = entries-small (s .args .k) (length (s .args .g .now)) (z .k-to) (z .n-to);
+      entries = entries-admitted (s .args .k) (length (s .args .g .now)) (z .k-to) (z .n-to);
     }
 
 mul-start : tie.Need-mul-start
@@ -49,35 +69,27 @@ mul-start c = search needs
 
 mul-start-2 : tie.Need-mul-start-2
 mul-start-2 c =
-    let s = c .before .before .before .before .before .before .before .before .before .before .before .before .before .before .before .before in
-    let f = c .before .before .before .solve .ensures in
-    let z = s .pre .0 in
-    let h = row-start (c .before .before .before .solve .result .least) (length (s .args .g .now) + 1) (f .least-row .row) in
-    omega (arith, z .n-to)
+    let made = c .before .before .before in
+    omega (arith, row-within made, sizes made .n-to)
 
 copy-from-requires : tie.Need-copy-from-requires
 copy-from-requires c κs =
-    let s = c .before .before .before .before .before .before .before .before .before .before .before .before .before .before .before .before .before .before in
-    let f = c .before .before .before .before .before .solve .ensures in
-    let z = s .pre .0 in
-    let h = row-start (c .before .before .before .before .before .solve .result .least) (length (s .args .g .now) + 1) (f .least-row .row) in
-    omega (arith, f .full, z .r-words, z .k-to)
+    let made = c .before .before .before .before .before in
+    let z = sizes made in
+    omega (arith, row-within made, made .solve .ensures .full, z .r-words, z .t-words, z .k-to)
 
 add-copy-from : tie.Need-add-copy-from
 add-copy-from c =
-    let s = c .before .before .before .before .before .before .before .before .before .before .before .before .before .before .before .before .before .before .before .before .before .before in
-    let f = c .before .before .before .before .before .before .before .before .before .solve .ensures in
-    let z = s .pre .0 in
-    let h = row-start (c .before .before .before .before .before .before .before .before .before .solve .result .least) (length (s .args .g .now) + 1) (f .least-row .row) in
-    omega (arith, z .n-to)
+    let copied = c .before .before .before in
+    let made = copied .before .before .before .before .before .before in
+    omega (arith, row-within made, sizes made .n-to)
 
 copy-from-requires-2 : tie.Need-copy-from-requires-2
 copy-from-requires-2 c κs =
-    let s = c .before .before .before .before .before .before .before .before .before .before .before .before .before .before .before .before .before .before .before .before .before .before .before in
-    let f = c .before .before .before .before .before .before .before .before .before .before .solve .ensures in
-    let z = s .pre .0 in
-    let h = row-start (c .before .before .before .before .before .before .before .before .before .before .solve .result .least) (length (s .args .g .now) + 1) (f .least-row .row) in
-    omega (arith, f .full, z .t-words, z .k-to)
+    let copied = c .before .before .before .before in
+    let made = copied .before .before .before .before .before .before in
+    let z = sizes made in
+    omega (arith, row-within made, made .solve .ensures .full, z .r-words, z .t-words, z .k-to)
 
 same-length : tie.Need-same-length
 same-length c = search needs
@@ -93,11 +105,11 @@ same-length-4 c = search needs
 
 returns : tie.Need-returns
 returns c =
-    let s = c .before .before .before .before .before .before .before .before .before .before .before .before .before .before .before .before .before .before .before .before .before .before .before .before .before .before in
-    let f = c .before .before .before .before .before .before .before .before .before .before .before .before .before .solve .ensures in
-    let z = s .pre .0 in
-    rw (c .before .before .before .before .before .before .before .copy-from .ensures, c .before .before .copy-from2 .ensures, z .r-words, z .t-words)
-    (pair-written (z .modulus .prime) (z .k-from) (z .k-to) (z .n-to) (c .before .before .before .before .before .before .before .before .before .before .before .before .before .before .before .before .before .before .before .pair-series .ensures .1) f)
+    let copied = c .before .before .before .before .before .before .before in
+    let made = copied .before .before .before .before .before .before in
+    let z = sizes made in
+    rw (copied .copy-from .ensures, c .before .before .copy-from2 .ensures, z .r-words, z .t-words)
+    (pair-written (z .modulus .prime) (z .k-from) (z .k-to) (z .n-to) (series-at made .pair-series .ensures .1) (made .solve .ensures))
 
 pub pair-work-spec : {M : Type 1} → statement M
 pair-work-spec =

@@ -1,10 +1,10 @@
 -- Where the sizes fit, row i is part i - 1 of the basis.
 use mathlib.Core.Path.{refl}
-use Prim.Native.Nat.{_+_, _*_, _-_}
-use native.Mathlib.Nat.{mul-le-mul}
+use Prim.Native.Nat.{_+_}
 use native.Mathlib.Omega.{arith}
 use Rattle.field.proofs.Truth.{fails}
-use Rattle.words.proofs.Part.{part-fits}
+use Rattle.words.proofs.Sizes.{row-small}
+use Rattle.engine.proofs.View.{row-inside}
 use borrow.Author.Needs.{needs}
 use Rattle.engine.proofs.row_view.Statement.{statement}
 use Rattle.engine.proofs.row_view.Tie as tie
@@ -22,13 +22,12 @@ mul-part-at : tie.Need-mul-part-at
 mul-part-at c =
     let a = c .before .before .before .args in
     let f = (c .before .view-fits .ensures .0 (c .if1 .taken)) in
-    omega (arith, mul-le-mul {n₁ = a .n} {m₁ = a .s + 1} {n₂ = 8} {m₂ = 256} (f .n-to) (omega (arith, f .s-to)))
+    omega (arith, row-small (a .n) (a .s + 1) (f .n-to) (omega (arith, f .s-to)))
 
 part-at-requires : tie.Need-part-at-requires
 part-at-requires c κs =
-    let a = c .before .before .before .args in
     let f = (c .before .view-fits .ensures .0 (c .if1 .taken)) in
-    omega (arith, part-fits (a .n) (a .n * (a .s + 1)) (a .i - 1) (omega (arith, f .i-from, f .i-to)), f .full)
+    row-inside f _ (omega (arith, f .n-from, f .i-from, f .i-to))
 
 slice-aggregate-result : tie.Need-slice-aggregate-result
 slice-aggregate-result c = search needs

@@ -30,12 +30,15 @@ any-from-requires c κs = search needs
 
 returns-6 : tie.Need-returns-6
 returns-6 c =
-    later _ _ _ (omega arith) (later _ _ _ (no-either (omega arith) (omega arith)) (later _ _ _ (no-either (exact (c .before .before .before .if4 .left)) (exact (c .before .before .if5 .left)))
-    (here _ _ (c .before .any-from .ensures .0 (c .if6 .taken)))))
+    let lengths = c .before .before in
+    later _ _ _ (omega arith) (later _ _ _ (no-either (omega arith) (omega arith))
+    (later _ _ _ (no-either (exact (lengths .before .if4 .left)) (exact (lengths .if5 .left))) (here _ _ (c .before .any-from .ensures .0 (c .if6 .taken)))))
 
 returns-7 : tie.Need-returns-7
 returns-7 c =
-    later _ _ _ (omega arith) (later _ _ _ (no-either (omega arith) (omega arith)) (later _ _ _ (no-either (exact (c .before .before .before .if4 .left)) (exact (c .before .before .if5 .left)))
+    let lengths = c .before .before in
+    later _ _ _ (omega arith) (later _ _ _ (no-either (omega arith) (omega arith))
+    (later _ _ _ (no-either (exact (lengths .before .if4 .left)) (exact (lengths .if5 .left)))
     (later _ _ _ (fails _ (c .before .any-from .ensures) (c .if6 .left)) no-more)))
 
 pub test-pair-rest-spec : {M : Type 1} → statement M

@@ -1,9 +1,8 @@
 -- Each size is tested; lengths are multiplied last.
 use Prim.Native.Nat.{_+_}
-use native.Mathlib.Nat.{mul-le-mul}
 use native.Mathlib.Omega.{arith}
 use Rattle.field.proofs.Truth.{shown, refuted}
-use Rattle.words.proofs.Sizes.{basis-small}
+use Rattle.words.proofs.Sizes.{row-small, basis-small}
 use borrow.Author.Needs.{needs}
 use Rattle.engine.proofs.view_fits.Statement.{statement}
 use Rattle.engine.proofs.view_fits.Tie as tie
@@ -27,10 +26,14 @@ add-if6 : tie.Need-add-if6
 add-if6 c = search needs
 
 mul-if6 : tie.Need-mul-if6
-mul-if6 c = omega (arith, mul-le-mul {n₁ = c .before .before .before .before .before .args .n} {m₁ = c .before .before .before .before .before .args .s + 1} {n₂ = 8} {m₂ = 256} (omega arith) (omega arith))
+mul-if6 c =
+    let a = c .before .before .before .before .before .args in
+    omega (arith, row-small (a .n) (a .s + 1) (omega arith) (omega arith))
 
 mul-if6-2 : tie.Need-mul-if6-2
-mul-if6-2 c = omega (arith, basis-small (c .before .before .before .before .before .args .n) (c .before .before .before .before .before .args .s) (omega arith) (omega arith))
+mul-if6-2 c =
+    let a = c .before .before .before .before .before .args in
+    omega (arith, basis-small (a .n) (a .s) (omega arith) (omega arith))
 
 returns-6 : tie.Need-returns-6
 returns-6 c = refuted (λ f. omega arith)

@@ -1,8 +1,9 @@
 -- The three words, the type and the series are written one after the other.
-use mathlib.Core.Path.{ap, _∙_}
+use mathlib.Core.Path.{ap, sym, _∙_}
 use native.Mathlib.Omega.{arith}
 use lib.ListN.{length, length-set}
-use Rattle.jobfile.proofs.Over.{gathered, length-words-over, length-first}
+use Rattle.jobfile.proofs.LaidOut.{length-of}
+use Rattle.jobfile.proofs.Gathered.{gathered, length-first}
 use borrow.Author.Needs.{needs}
 use Rattle.jobfile.proofs.gather.Statement.{statement}
 use Rattle.jobfile.proofs.gather.Tie as tie
@@ -45,21 +46,28 @@ part-copy-start-2 c = search needs
 
 part-copy-end-2 : tie.Need-part-copy-end-2
 part-copy-end-2 c =
-    let start = c .before .before .before .before .before .before .before in
-    omega (arith, length-first (start .args .words .now) (start .args .p) (start .args .n) (start .args .s) (start .args .d .now) _ (omega (arith, start .pre)) (c .before .before .copy .ensures))
+    let at-copy = c .before .before in
+    let start = at-copy .before .before .before .before .before in
+    let args = start .args in
+    omega (arith, start .pre, length-first (args .words .now) (args .p) (args .n) (args .s) (args .d .now) _ (omega (arith, start .pre)) (at-copy .copy .ensures))
 
 copy-requires-2 : tie.Need-copy-requires-2
 copy-requires-2 c κs = search needs
 
 same-length : tie.Need-same-length
 same-length c =
-    let start = c .before .before .before .before .before .before .before .before .before .before .before in
-    ap length (gathered (start .args .words .now) (start .args .p) (start .args .n) (start .args .s) (start .args .d .now) (start .args .series .now) _ _ (start .pre) (c .before .before .before .before .before .before .copy .ensures) (c .before .before .copy2 .ensures)) ∙ length-words-over _ _ _ _ _ _ (start .pre)
+    let at-copy = c .before .before .before .before .before .before in
+    let start = at-copy .before .before .before .before .before in
+    let args = start .args in
+    ap length (gathered (args .words .now) (args .p) (args .n) (args .s) (args .d .now) (args .series .now) _ _ (start .pre) (at-copy .copy .ensures) (c .before .before .copy2 .ensures))
+    ∙ length-of _ ∙ sym (start .pre)
 
 returns : tie.Need-returns
 returns c =
-    let start = c .before .before .before .before .before .before .before .before .before .before .before in
-    gathered _ _ _ _ _ _ _ _ (start .pre) (c .before .before .before .before .before .before .copy .ensures) (c .before .before .copy2 .ensures)
+    let at-copy = c .before .before .before .before .before .before in
+    let start = at-copy .before .before .before .before .before in
+    let args = start .args in
+    gathered (args .words .now) (args .p) (args .n) (args .s) (args .d .now) (args .series .now) _ _ (start .pre) (at-copy .copy .ensures) (c .before .before .copy2 .ensures)
 
 pub gather-spec : {M : Type 1} → statement M
 gather-spec =

@@ -29,7 +29,9 @@ same-length-2 c = search needs
 returns : tie.Need-returns
 unfolding ReadOutcome Outcome
 returns c =
-    inl (passed _ _ (c .before .before .before .before .before .before .before .before .before .test-file .ensures) (c .before .before .before .before .before .before .before .enum-told .given .1), c .before .before .before .before .read-tested .ensures)
+    let at-read = c .before .before .before .before in
+    let told = at-read .before .before .before in
+    inl (passed _ _ (told .before .before .test-file .ensures) (told .enum-told .given .1), at-read .read-tested .ensures)
 
 returns-2 : tie.Need-returns-2
 unfolding ReadOutcome Outcome

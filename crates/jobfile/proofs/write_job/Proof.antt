@@ -27,7 +27,9 @@ same-length c = search needs
 returns : tie.Need-returns
 unfolding WriteOutcome Outcome
 returns c =
-    inl (passed _ _ (c .before .before .before .before .before .before .test-job .ensures) (c .before .before .before .before .enum-told .given .1), c .before .before .write-tested .ensures)
+    let at-write = c .before .before in
+    let told = at-write .before .before in
+    inl (passed _ _ (told .before .before .test-job .ensures) (told .enum-told .given .1), at-write .write-tested .ensures)
 
 returns-2 : tie.Need-returns-2
 unfolding WriteOutcome Outcome

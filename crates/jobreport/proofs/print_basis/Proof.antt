@@ -5,17 +5,12 @@ use Rattle.jobreport.proofs.Print.{printed, not-refused}
 use borrow.Author.Needs.{needs}
 use Rattle.jobreport.proofs.print_basis.Statement.{statement}
 use Rattle.jobreport.proofs.print_basis.Tie as tie
-use Rattle.jobreport.proofs.print_basis.Reads as reads
-use Rattle.jobreport.proofs.print_basis.Lts as lts
-use Rattle.engine.proofs.basis.Reads as basis-reads
-use Rattle.report.proofs.write_basis.Reads as write-basis-reads
-use Rattle.report.proofs.write_refusal.Reads as write-refusal-reads
 
 basis-requires : tie.Need-basis-requires
 basis-requires c κs = search needs
 
-enum-known-least : tie.Need-enum-known-least
-enum-known-least c = search needs
+enum-known-found : tie.Need-enum-known-found
+enum-known-found c = search needs
 
 write-basis-requires : tie.Need-write-basis-requires
 write-basis-requires c κs = search needs
@@ -34,9 +29,11 @@ same-length-2 c = search needs
 
 returns : tie.Need-returns
 returns c =
-    let start = c .before .before .before .before .before .before .before .before .before .before .before .before .before .before .before .before in
-    let worked = c .before .before .before .before .before .before .before .before .before .before .basis in
-    printed _ (start .pre .0) _ _ (start .pre .1) _ (worked .ensures) _ _ _ _ _ (ap basisSays (c .before .before .before .before .before .before .least .given .1)) (c .before .before .write-basis .ensures)
+    let wrote = c .before .before in
+    let known = wrote .before .before .before .before in
+    let worked = known .before .before .before .before in
+    let start = worked .before .before .before .before .before .before in
+    printed _ (start .pre .0) _ _ (start .pre .1) _ (worked .basis .ensures) _ _ _ _ _ (ap basisSays (known .found .given .1)) (wrote .write-basis .ensures)
 
 same-length-3 : tie.Need-same-length-3
 same-length-3 c = search needs
@@ -46,16 +43,17 @@ same-length-4 c = search needs
 
 returns-2 : tie.Need-returns-2
 returns-2 c =
-    let start = c .before .before .before .before .before .before .before .before .before .before .before .before .before .before .before in
-    let worked = c .before .before .before .before .before .before .before .before .before .basis in
-    absurd (not-refused _ (start .pre .0) _ _ (start .pre .1) _ (worked .ensures) _ (ap basisSays (c .before .before .before .before .before .k .given .1)))
+    let known = c .before .before .before .before .before in
+    let worked = known .before .before .before .before in
+    let start = worked .before .before .before .before .before .before in
+    absurd (not-refused _ (start .pre .0) _ _ (start .pre .1) _ (worked .basis .ensures) _ (ap basisSays (known .k .given .1)))
 
 pub print-basis-spec : {M : Type 1} → statement M
 print-basis-spec =
     tie.close
     (tie.spec
     basis-requires
-    enum-known-least
+    enum-known-found
     write-basis-requires
     enum-known-k
     write-refusal-requires

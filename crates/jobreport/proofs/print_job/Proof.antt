@@ -5,11 +5,12 @@ use Prim.Native.Nat.{_+_, _*_, _≤_}
 use native.Mathlib.Omega.{arith}
 use lib.ListN.{take, length-take, length-replicate}
 use lib.Seq.{length-take-le}
+use Rattle.sizes.specs.declared.JobSizes.{JobSizes}
 use Rattle.words.proofs.Sizes.{row-small, series-small, basis-small}
-use Rattle.engine.specs.Words.{basisLength}
+use Rattle.sizes.specs.Lengths.{basisLength}
 use Rattle.jobfile.specs.Job.{Admitted, jobOf}
 use Rattle.jobfile.specs.Layout.{layout}
-use Rattle.report.specs.Calls.{RefusalOutcome}
+use Rattle.report.specs.Calls.{RefusalTextOutcome}
 use Rattle.jobreport.specs.Printed.{PrintOutcome, JobPrintOutcome}
 use Rattle.jobfile.specs.Answers.{jobSays}
 use Rattle.report.specs.Text.{refusalText}
@@ -23,19 +24,20 @@ use Rattle.jobfile.proofs.read_job.Reads as read-job-reads
 use Rattle.jobreport.proofs.print_basis.Reads as print-basis-reads
 use Rattle.report.proofs.write_refusal.Reads as write-refusal-reads
 
+abbrev sizes : tie.After-known-told2 → JobSizes
+sizes c = c .before .job .given .0 .0
+
 -- the job that was read, and that it fits the working words
 job : (c : tie.After-known-told2) →
     let d = c .before .before .before .before .before .read-job .last .1 .0 in
     let series = c .before .before .before .before .before .read-job .last .1 .1 .0 in
-    let p = c .before .p .given .0 .0 in
-    let n = c .before .p .given .0 .1 .0 in
-    let s = c .before .p .given .0 .1 .1 .0 in
-    Admitted (jobOf p n s (take n d) (take (n * s) series)) × (c .before .before .before .before .before .before .before .before .before .before .args .file .now ≡ layout (jobOf p n s (take n d) (take (n * s) series)))
-job c = read-job _ _ _ _ _ _ (c .before .before .before .before .before .read-job .ensures) _ _ _ (ap jobSays (c .before .p .given .1))
+    let there = jobOf (sizes c .p) (sizes c .n) (sizes c .s) (take (sizes c .n) d) (take (sizes c .n * sizes c .s) series) in
+    Admitted there × (c .before .before .before .before .before .before .before .before .before .before .args .file .now ≡ layout there)
+job c = read-job _ _ _ _ _ _ (c .before .before .before .before .before .read-job .ensures) _ _ _ (ap jobSays (c .before .job .given .1))
 
 few : (c : tie.After-known-told2) →
-    let n = c .before .p .given .0 .1 .0 in
-    let s = c .before .p .given .0 .1 .1 .0 in
+    let n = sizes c .n in
+    let s = sizes c .s in
     (n ≤ 8) × (s ≤ 255) × (n * s ≤ 2040) × (basisLength n s ≤ 16384)
 few c =
     let a = job c .0 in
@@ -56,8 +58,8 @@ enum-known-k c = search needs
 write-refusal-requires : tie.Need-write-refusal-requires
 write-refusal-requires c κs = search needs
 
-enum-known-p : tie.Need-enum-known-p
-enum-known-p c = search needs
+enum-known-job : tie.Need-enum-known-job
+enum-known-job c = search needs
 
 cast-rows : tie.Need-cast-rows
 cast-rows c = search needs
@@ -72,22 +74,21 @@ add-words : tie.Need-add-words
 add-words c = search needs
 
 mul-words : tie.Need-mul-words
-mul-words c = omega (arith, few c, row-small (c .before .p .given .0 .1 .0) (c .before .p .given .0 .1 .1 .0 + 1) (few c .0) (omega (arith, few c)))
+mul-words c = omega (arith, few c, row-small (sizes c .n) (sizes c .s + 1) (few c .0) (omega (arith, few c)))
 
 mul-words-2 : tie.Need-mul-words-2
 mul-words-2 c = omega (arith, few c)
 
 array-share-prefix-d : tie.Need-array-share-prefix-d
-array-share-prefix-d c = omega (arith, job c .0 .type-words, length-take (c .before .p .given .0 .1 .0) (c .before .before .before .before .before .read-job .last .1 .0))
+array-share-prefix-d c = omega (arith, job c .0 .type-words, length-take (sizes c .n) (c .before .before .before .before .before .read-job .last .1 .0))
 
 slice-aggregate-print-basis : tie.Need-slice-aggregate-print-basis
 slice-aggregate-print-basis c = sym (job (c .before) .0 .type-words)
 
 array-share-prefix-series : tie.Need-array-share-prefix-series
 array-share-prefix-series c =
-    let at-p = c .before .before in
-    let at-read-job = at-p .before .before .before .before in
-    omega (arith, job (c .before) .0 .series-words, length-take (at-p .p .given .0 .1 .0 * at-p .p .given .0 .1 .1 .0) (at-read-job .read-job .last .1 .1 .0))
+    let at-read-job = c .before .before .before .before .before .before in
+    omega (arith, job (c .before) .0 .series-words, length-take (sizes (c .before) .n * sizes (c .before) .s) (at-read-job .read-job .last .1 .1 .0))
 
 slice-aggregate-print-basis-2 : tie.Need-slice-aggregate-print-basis-2
 slice-aggregate-print-basis-2 c = sym (job (c .before .before) .0 .series-words)
@@ -105,7 +106,7 @@ same-length : tie.Need-same-length
 same-length c = search needs
 
 returns : tie.Need-returns
-unfolding PrintOutcome RefusalOutcome
+unfolding PrintOutcome RefusalTextOutcome
 returns c =
     let read = c .before .before .before .before .before .before .before .before .before .read-job in
     (refusalText _, inr (record { number = _; first = read-refused _ _ _ _ _ _ (read .ensures) _ (ap jobSays (c .before .before .before .before .before .k .given .1)); says = refl }), c .before .before .write-refusal .ensures)
@@ -129,7 +130,7 @@ print-job-spec =
     read-job-requires
     enum-known-k
     write-refusal-requires
-    enum-known-p
+    enum-known-job
     cast-rows
     cast-order
     mul-coefficients

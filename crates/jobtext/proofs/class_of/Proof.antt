@@ -22,11 +22,15 @@ returns-4 c = simp (ne-eqb _ 10 (c .before .before .before .if1 .left), ne-eqb _
 
 returns-5 : tie.Need-returns-5
 unfolding classOf
-returns-5 c = simp (ne-eqb _ 10 (c .before .before .before .before .if1 .left), ne-eqb _ 35 (c .before .before .before .if2 .left), ne-eqb _ 32 (c .before .before .if3 .left), ne-eqb _ 9 (c .before .if4 .left), eq-eqb _ 13 (c .if5 .taken))
+returns-5 c =
+    let at-if2 = c .before .before .before in
+    simp (ne-eqb _ 10 (at-if2 .before .if1 .left), ne-eqb _ 35 (at-if2 .if2 .left), ne-eqb _ 32 (c .before .before .if3 .left), ne-eqb _ 9 (c .before .if4 .left), eq-eqb _ 13 (c .if5 .taken))
 
 returns-6 : tie.Need-returns-6
 unfolding classOf
-returns-6 c = simp (ne-eqb _ 10 (c .before .before .before .before .if1 .left), ne-eqb _ 35 (c .before .before .before .if2 .left), ne-eqb _ 32 (c .before .before .if3 .left), ne-eqb _ 9 (c .before .if4 .left), ne-eqb _ 13 (c .if5 .left))
+returns-6 c =
+    let at-if2 = c .before .before .before in
+    simp (ne-eqb _ 10 (at-if2 .before .if1 .left), ne-eqb _ 35 (at-if2 .if2 .left), ne-eqb _ 32 (c .before .before .if3 .left), ne-eqb _ 9 (c .before .if4 .left), ne-eqb _ 13 (c .if5 .left))
 
 pub class-of-spec : {M : Type 1} → statement M
 class-of-spec = tie.close (tie.spec returns returns-2 returns-3 returns-4 returns-5 returns-6)

@@ -4,8 +4,8 @@ use mathlib.Core.List.{List, [], _++_}
 use Prim.Native.Nat.{ℕ, _≤_}
 use lib.ListN.{length, take, drop}
 use lib.Seq.{length-take-le}
-use Rattle.jobtext.proofs.Scan.{a-word, rest-word, rest-over}
-use Rattle.jobtext.proofs.Reading.{ended-over, ended-word, follows-wrong, follows-job}
+use Rattle.jobtext.proofs.Scan.{a-word, rest-word, rest-past}
+use Rattle.jobtext.proofs.Reading.{end-reached, end-missed, follows-wrong, follows-job}
 use borrow.Author.Needs.{needs}
 use Rattle.jobtext.proofs.finish.Statement.{statement}
 use Rattle.jobtext.proofs.finish.Tie as tie
@@ -24,7 +24,7 @@ returns c =
     let line = here .result .line in
     let x = a-word (drop at (c .before .before .before .before .before .before .before .args .text .now)) [] line in
     follows-wrong _ line _ _
-    (ended-word _ line (x .0) (x .1) _ (here .ensures .1 ∙ rest-word _ at (c .if1 .taken) line (here .ensures .2 (c .if1 .taken)) ∙ x .2))
+    (end-missed _ line (x .0) (x .1) _ (here .ensures .1 ∙ rest-word _ at (c .if1 .taken) line (here .ensures .2 (c .if1 .taken)) ∙ x .2))
 
 slice-relend-prefix-copy : tie.Need-slice-relend-prefix-copy
 slice-relend-prefix-copy c = search needs
@@ -59,7 +59,7 @@ returns-2 c =
     let a = c .before .before .before .before .before .before .before .before .before .before .before .before .before .before .before .args in
     let here = c .before .before .before .before .before .before .before .before .before .skip in
     follows-job _ _ _ _ _ _ _ _ _
-    (ended-over _ (here .result .line) _ (here .ensures .1 ∙ rest-over _ (here .result .at) (c .before .before .before .before .before .before .before .before .if1 .left) (here .result .line)))
+    (end-reached _ (here .result .line) _ (here .ensures .1 ∙ rest-past _ (here .result .at) (c .before .before .before .before .before .before .before .before .if1 .left) (here .result .line)))
     (ap (λ (l : List ℕ). l ++ drop (length (a .d .now)) (a .types .now)) (c .before .before .before .before .before .before .copy .ensures))
     (ap (λ (l : List ℕ). l ++ drop (length (a .f .now)) (a .series .now)) (c .before .before .copy2 .ensures))
 

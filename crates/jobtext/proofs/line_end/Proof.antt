@@ -4,7 +4,7 @@ use Prim.Native.Nat.{ℕ, _-_, _≤_}
 use native.Mathlib.Omega.{arith}
 use lib.ListN.{length, drop}
 use Rattle.jobtext.specs.Tokens.{scan, comment}
-use Rattle.jobtext.proofs.Scan.{comment-turn, comment-stop, comment-over}
+use Rattle.jobtext.proofs.Scan.{comment-turn, comment-stop, comment-past}
 use Rattle.jobtext.proofs.line_end.Statement.{statement}
 use Rattle.jobtext.proofs.line_end.Tie as tie
 
@@ -39,7 +39,7 @@ loop-again c =
 returns-2 : tie.Need-returns-2 Inv-loop μ-loop
 returns-2 c =
     let i = c .before .loop in
-    (i .inv .0, i .inv .1, λ l. i .inv .2 l ∙ comment-over _ (i .end) (omega arith) l)
+    (i .inv .0, i .inv .1, λ l. i .inv .2 l ∙ comment-past _ (i .end) (omega arith) l)
 
 pub line-end-spec : {M : Type 1} → statement M
 line-end-spec =

@@ -47,7 +47,8 @@ put-requires-3 c κs =
     let at-put-number = at-put2 .before .before .before .before .before in
     let at-put = at-put-number .before .before .before .before in
     let start = at-put .before .before .before .before in
-    room-rest (start .pre) (wrote-append (wrote-append (wrote-append (at-put .put .ensures) (at-put-number .put-number .ensures)) (at-put2 .put2 .ensures)) (at-put-words .put-words .ensures))
+    let spaced = wrote-append (wrote-append (at-put .put .ensures) (at-put-number .put-number .ensures)) (at-put2 .put2 .ensures) in
+    room-rest (start .pre) (wrote-append spaced (at-put-words .put-words .ensures))
 
 same-length : tie.Need-same-length
 same-length c = search needs
@@ -60,7 +61,8 @@ returns c =
     let at-put2 = at-put-words .before .before .before .before in
     let at-put-number = at-put2 .before .before .before .before .before in
     let at-put = at-put-number .before .before .before .before in
-    wrote-append (wrote-append (wrote-append (wrote-append (at-put .put .ensures) (at-put-number .put-number .ensures)) (at-put2 .put2 .ensures)) (at-put-words .put-words .ensures)) (at-put3 .put3 .ensures)
+    let spaced = wrote-append (wrote-append (at-put .put .ensures) (at-put-number .put-number .ensures)) (at-put2 .put2 .ensures) in
+    wrote-append (wrote-append spaced (at-put-words .put-words .ensures)) (at-put3 .put3 .ensures)
 
 pub put-message-spec : {M : Type 1} → statement M
 put-message-spec =

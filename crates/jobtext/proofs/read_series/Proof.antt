@@ -5,8 +5,9 @@ use Prim.Native.Nat.{ℕ, _*_}
 use native.Mathlib.Omega.{arith}
 use lib.ListN.{length}
 use Rattle.jobtext.specs.declared.Slip.{Slip}
-use Rattle.jobtext.specs.Job.{below, ended, job, coefficients}
-use Rattle.jobtext.proofs.Reading.{front-most, size-fits, lent-zeros, front-fits, front-length, front-filled, front-wrong, filled-to, filled-wrong, follows-same, follows-wrong}
+use Rattle.jobtext.specs.Job.{isBelow, atEnd, job, fromSeries}
+use Rattle.words.proofs.Sizes.{series-small}
+use Rattle.jobtext.proofs.Reading.{front-most, lent-zeros, front-fits, front-length, front-filled, front-wrong, filled-to, filled-wrong, follows-same, follows-wrong}
 use borrow.Author.Needs.{needs}
 use Rattle.jobtext.proofs.read_series.Statement.{statement}
 use Rattle.jobtext.proofs.read_series.Tie as tie
@@ -20,18 +21,18 @@ filled : (c : tie.After-read-numbers)
     start .args .n * start .args .s ≡ length (numbers c)
 filled c =
     let start = c .before .before .before .before in
-    lent-zeros 2040 (start .args .n * start .args .s) (size-fits (start .args .n) (start .args .s) (start .pre .1) (start .pre .2))
+    lent-zeros 2040 (start .args .n * start .args .s) (series-small (start .args .n) (start .args .s) (start .pre .1) (start .pre .2))
     ∙ sym (c .read-numbers .kept .1 .1 .1 .1 .1 .0)
 
 mul-size : tie.Need-mul-size
 mul-size c =
     let start = c .before .before in
-    omega (arith, size-fits (start .args .n) (start .args .s) (start .pre .1) (start .pre .2))
+    omega (arith, series-small (start .args .n) (start .args .s) (start .pre .1) (start .pre .2))
 
 array-borrow-prefix-f : tie.Need-array-borrow-prefix-f
 array-borrow-prefix-f c =
     let start = c .before .before in
-    size-fits (start .args .n) (start .args .s) (start .pre .1) (start .pre .2)
+    series-small (start .args .n) (start .args .s) (start .pre .1) (start .pre .2)
 
 slice-aggregate-read-numbers : tie.Need-slice-aggregate-read-numbers
 slice-aggregate-read-numbers c = lent-zeros 2040 _ (array-borrow-prefix-f (c .before))
@@ -52,29 +53,32 @@ finish-requires : tie.Need-finish-requires
 finish-requires c κs =
     let read = c .before .before .before .before .before .before .before in
     let start = read .before .before .before .before in
-    let few = size-fits (start .args .n) (start .args .s) (start .pre .1) (start .pre .2) in
+    let few = series-small (start .args .n) (start .args .s) (start .pre .1) (start .pre .2) in
     let m : length (start .args .series .now) ≡ 2040 = omega arith in
-    (filled-to _ _ _ _ _ (c .before .before .before .before .after .given .1) (read .read-numbers .ensures) .0, omega (arith, start .pre .3), rw m (front-most (numbers read) _ _ (filled read) 2040 few))
+    let after = filled-to _ _ _ _ _ (c .before .before .before .before .after .given .1) (read .read-numbers .ensures) in
+    (after .0, omega (arith, start .pre .3), rw m (front-most (numbers read) _ _ (filled read) 2040 few))
 
 enum-known-slip : tie.Need-enum-known-slip
 enum-known-slip c = search needs
 
 returns : tie.Need-returns
-unfolding coefficients
+unfolding fromSeries
 returns c =
     let read = c .before .before .before .before .before .before .before .before in
     let a = read .before .before .before .before .args in
     follows-same _ _ _ _ _
-    (front-filled (numbers read) _ _ (filled read) (below (a .p)) Slip.Coefficient (λ f. ended (job (a .p) (a .n) (a .s) (a .d .now) f)) _ _ (filled-to _ _ _ _ _ (c .before .before .before .before .before .after .given .1) (read .read-numbers .ensures) .1))
+    (front-filled (numbers read) _ _ (filled read) (isBelow (a .p)) Slip.Coefficient (λ f. atEnd (job (a .p) (a .n) (a .s) (a .d .now) f)) _ _
+    (filled-to _ _ _ _ _ (c .before .before .before .before .before .after .given .1) (read .read-numbers .ensures) .1))
     (c .finish .ensures)
 
 returns-2 : tie.Need-returns-2
-unfolding coefficients
+unfolding fromSeries
 returns-2 c =
     let read = c .before .before .before .before in
     let a = read .before .before .before .before .args in
     follows-wrong _ _ _ _
-    (front-wrong (numbers read) [] _ (filled read) (below (a .p)) Slip.Coefficient (λ f. ended (job (a .p) (a .n) (a .s) (a .d .now) f)) _ _ _ (filled-wrong _ _ _ _ _ (c .before .slip .given .1) (read .read-numbers .ensures)))
+    (front-wrong (numbers read) [] _ (filled read) (isBelow (a .p)) Slip.Coefficient (λ f. atEnd (job (a .p) (a .n) (a .s) (a .d .now) f)) _ _ _
+    (filled-wrong _ _ _ _ _ (c .before .slip .given .1) (read .read-numbers .ensures)))
 
 pub read-series-spec : {M : Type 1} → statement M
 read-series-spec =

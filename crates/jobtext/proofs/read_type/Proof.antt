@@ -5,8 +5,8 @@ use Prim.Native.Nat.{ℕ}
 use lib.ListN.{length}
 use lib.Seq.{length-take-le}
 use Rattle.jobtext.specs.declared.Slip.{Slip}
-use Rattle.jobtext.specs.Job.{below, coefficients, entries}
-use Rattle.jobtext.proofs.Reading.{front-most, front-fits, front-length, front-filled, front-wrong, filled-to, filled-wrong, follows-same, follows-wrong}
+use Rattle.jobtext.specs.Job.{isBelow, fromSeries}
+use Rattle.jobtext.proofs.Reading.{type-by, front-most, front-fits, front-length, front-filled, front-wrong, filled-to, filled-wrong, follows-same, follows-wrong}
 use borrow.Author.Needs.{needs}
 use Rattle.jobtext.proofs.read_type.Statement.{statement}
 use Rattle.jobtext.proofs.read_type.Tie as tie
@@ -48,21 +48,22 @@ enum-known-slip : tie.Need-enum-known-slip
 enum-known-slip c = search needs
 
 returns : tie.Need-returns
-unfolding entries
 returns c =
     let read = c .before .before .before .before .before .before .before .before in
     let a = read .before .before .before .args in
     follows-same _ _ _ _ _
-    (front-filled (numbers read) _ _ (filled read) (below 256) Slip.Entry (coefficients (a .p) (a .n) (a .s)) _ _ (filled-to _ _ _ _ _ (c .before .before .before .before .before .after .given .1) (read .read-numbers .ensures) .1))
+    (type-by (a .p) (a .n) (a .s) _
+    ∙ front-filled (numbers read) _ _ (filled read) (isBelow 256) Slip.Entry (fromSeries (a .p) (a .n) (a .s)) _ _
+    (filled-to _ _ _ _ _ (c .before .before .before .before .before .after .given .1) (read .read-numbers .ensures) .1))
     (c .read-series .ensures)
 
 returns-2 : tie.Need-returns-2
-unfolding entries
 returns-2 c =
     let read = c .before .before .before .before in
     let a = read .before .before .before .args in
     follows-wrong _ _ _ _
-    (front-wrong (numbers read) [] _ (filled read) (below 256) Slip.Entry (coefficients (a .p) (a .n) (a .s)) _ _ _ (filled-wrong _ _ _ _ _ (c .before .slip .given .1) (read .read-numbers .ensures)))
+    (type-by (a .p) (a .n) (a .s) _
+    ∙ front-wrong (numbers read) [] _ (filled read) (isBelow 256) Slip.Entry (fromSeries (a .p) (a .n) (a .s)) _ _ _ (filled-wrong _ _ _ _ _ (c .before .slip .given .1) (read .read-numbers .ensures)))
 
 pub read-type-spec : {M : Type 1} → statement M
 read-type-spec =

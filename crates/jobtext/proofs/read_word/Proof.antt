@@ -1,23 +1,23 @@
 -- `read_word` meets its contract: the number so far, and what is left of the word.
-use mathlib.Core.Path.{_≡_, refl, sym, ap, _∙_}
-use mathlib.Core.List.{List, []}
-use Prim.Native.Nat.{ℕ, _-_, _^_, _≤_, _<_}
+use mathlib.Core.Path.{_≡_, refl, sym, _∙_}
+use mathlib.Core.List.{[]}
+use Prim.Native.Nat.{_-_, _^_, _≤_, _<_}
 use borrow.Author.Needs.{needs}
 use native.Mathlib.Omega.{arith}
-use lib.ListN.{length, getD, drop}
-use Rattle.jobtext.specs.Number.{numberOf, numberFrom}
+use lib.ListN.{length, drop}
+use Rattle.jobtext.specs.Number.{numeralOf, numeralFrom}
 use Rattle.jobtext.proofs.Number.{low-stop, high-stop, digit-turn, digit-bound, fits, too-large, last}
 use Rattle.jobtext.proofs.read_word.Statement.{statement}
 use Rattle.jobtext.proofs.read_word.Tie as tie
 
 abbrev Inv-loop : tie.InvT-loop
-Inv-loop word value₀ k₀ value k = (k ≤ length word) × (value < 2 ^ 36) × (numberOf word ≡ numberFrom value (drop k word))
+Inv-loop word value₀ k₀ value k = (k ≤ length word) × (value < 2 ^ 36) × (numeralOf word ≡ numeralFrom value (drop k word))
 
 abbrev μ-loop : tie.MeasureT-loop
 μ-loop word value₀ k₀ value k = length word - k
 
 loop-holds : tie.Need-loop-holds Inv-loop μ-loop
-unfolding numberOf
+unfolding numeralOf
 loop-holds c = (omega arith, omega arith, refl)
 
 shared-slice-read-b : tie.Need-shared-slice-read-b Inv-loop μ-loop
@@ -45,8 +45,11 @@ loop-less c = omega arith
 loop-again : tie.Need-loop-again Inv-loop μ-loop
 loop-again c =
     let i = c .before .before .before .before .before .loop in
-    let d = c .with-digit .ensures in
-    (omega arith, digit-bound (i .value) _ _ (omega arith) (i .inv .1) (d .0) (d .1), i .inv .2 ∙ digit-turn _ (i .k) (i .value) (omega arith) _ (c .before .before .if1 .left) (c .before .if2 .left) (d .0) (d .1))
+    let d = c .with-digit .ensures in (
+      omega arith,
+      digit-bound (i .value) _ _ (omega arith) (i .inv .1) (d .0) (d .1),
+      i .inv .2 ∙ digit-turn _ (i .k) (i .value) (omega arith) _ (c .before .before .if1 .left) (c .before .if2 .left) (d .0) (d .1),
+    )
 
 cast-t11 : tie.Need-cast-t11 Inv-loop μ-loop
 cast-t11 c = omega arith

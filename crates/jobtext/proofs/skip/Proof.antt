@@ -1,6 +1,6 @@
 -- `skip` meets its contract: the tokens from here on are those from the start.
 use mathlib.Core.Path.{_≡_, refl, sym, _∙_}
-use Prim.Native.Nat.{ℕ, _+_, _-_, _≤_}
+use Prim.Native.Nat.{_-_}
 use native.Mathlib.Omega.{arith}
 use borrow.Author.Needs.{needs}
 use lib.ListN.{length}
@@ -72,7 +72,8 @@ loop-again-3 : tie.Need-loop-again-3 Inv-loop μ-loop
 loop-again-3 c =
     let i = c .before .before .before .before .before .before .loop in
     let e = c .line-end .ensures in
-    (record { inside = e .1; lines = omega arith }, i .inv .1 ∙ rest-hash _ (i .here) (omega arith) (i .count) (sym (c .before .before .before .class-of .ensures) ∙ c .before .enum-told3 .given .1) ∙ e .2 (i .count))
+    let hash = sym (c .before .before .before .class-of .ensures) ∙ c .before .enum-told3 .given .1 in
+    (record { inside = e .1; lines = omega arith }, i .inv .1 ∙ rest-hash _ (i .here) (omega arith) (i .count) hash ∙ e .2 (i .count))
 
 enum-told-4 : tie.Need-enum-told-4 Inv-loop μ-loop
 enum-told-4 c = search needs

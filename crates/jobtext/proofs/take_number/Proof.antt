@@ -1,9 +1,9 @@
 -- `take_number` meets its contract: the next token is the word, and its number is taken.
-use mathlib.Core.Path.{_≡_, refl, sym, _∙_}
+use mathlib.Core.Path.{sym, _∙_}
 use native.Mathlib.Omega.{arith}
 use Rattle.jobtext.specs.Reading.{Takes}
-use Rattle.jobtext.proofs.Scan.{rest-word, rest-over}
-use Rattle.jobtext.proofs.Reading.{one-over, one-is, one-not, one-large}
+use Rattle.jobtext.proofs.Scan.{rest-word, rest-past}
+use Rattle.jobtext.proofs.Reading.{one-none, one-is, one-not, one-large}
 use borrow.Author.Needs.{needs}
 use Rattle.jobtext.proofs.take_number.Statement.{statement}
 use Rattle.jobtext.proofs.take_number.Tie as tie
@@ -13,7 +13,10 @@ skip-requires c κs = search needs
 
 returns : tie.Need-returns
 unfolding Takes
-returns c = λ ok slip go. one-over ok slip go (c .before .skip .result .line) _ (c .before .skip .ensures .1 ∙ rest-over _ (c .before .skip .result .at) (c .if1 .taken) (c .before .skip .result .line))
+returns c =
+    let skipped = c .before .skip in
+    let line = skipped .result .line in
+    λ ok slip go. one-none ok slip go line _ (skipped .ensures .1 ∙ rest-past _ (skipped .result .at) (c .if1 .taken) line)
 
 word-end-requires : tie.Need-word-end-requires
 word-end-requires c κs = search needs
@@ -46,9 +49,10 @@ returns-2 c =
     let ended = read .before .before in
     let tested = ended .before in
     let skipped = tested .before .skip in
-    let line = skipped .result .line in (
+    let line = skipped .result .line in
+    let token = skipped .ensures .1 ∙ rest-word _ (skipped .result .at) (tested .if1 .left) line (skipped .ensures .2 (tested .if1 .left)) ∙ ended .word-end .ensures .2 line in (
       record { inside = ended .word-end .ensures .1; lines = omega (arith, ended .word-end .ensures .0, skipped .ensures .0 .lines) },
-      λ ok slip go. one-is ok slip go line _ _ _ _ (skipped .ensures .1 ∙ rest-word _ (skipped .result .at) (tested .if1 .left) line (skipped .ensures .2 (tested .if1 .left)) ∙ ended .word-end .ensures .2 line) (sym (c .before .value .given .1) ∙ read .read-word .ensures),
+      λ ok slip go. one-is ok slip go line _ _ _ _ token (sym (c .before .value .given .1) ∙ read .read-word .ensures),
     )
 
 returns-3 : tie.Need-returns-3
@@ -59,7 +63,8 @@ returns-3 c =
     let tested = ended .before in
     let skipped = tested .before .skip in
     let line = skipped .result .line in
-    λ ok slip go. one-not ok slip go line _ _ _ (skipped .ensures .1 ∙ rest-word _ (skipped .result .at) (tested .if1 .left) line (skipped .ensures .2 (tested .if1 .left)) ∙ ended .word-end .ensures .2 line) (sym (c .enum-told .given .1) ∙ read .read-word .ensures)
+    let token = skipped .ensures .1 ∙ rest-word _ (skipped .result .at) (tested .if1 .left) line (skipped .ensures .2 (tested .if1 .left)) ∙ ended .word-end .ensures .2 line in
+    λ ok slip go. one-not ok slip go line _ _ _ token (sym (c .enum-told .given .1) ∙ read .read-word .ensures)
 
 returns-4 : tie.Need-returns-4
 unfolding Takes
@@ -69,7 +74,8 @@ returns-4 c =
     let tested = ended .before in
     let skipped = tested .before .skip in
     let line = skipped .result .line in
-    λ ok slip go. one-large ok slip go line _ _ _ (skipped .ensures .1 ∙ rest-word _ (skipped .result .at) (tested .if1 .left) line (skipped .ensures .2 (tested .if1 .left)) ∙ ended .word-end .ensures .2 line) (sym (c .enum-told2 .given .1) ∙ read .read-word .ensures)
+    let token = skipped .ensures .1 ∙ rest-word _ (skipped .result .at) (tested .if1 .left) line (skipped .ensures .2 (tested .if1 .left)) ∙ ended .word-end .ensures .2 line in
+    λ ok slip go. one-large ok slip go line _ _ _ token (sym (c .enum-told2 .given .1) ∙ read .read-word .ensures)
 
 pub take-number-spec : {M : Type 1} → statement M
 take-number-spec =

@@ -1,12 +1,12 @@
 -- `word_end` meets its contract: what was passed is the word's.
-use mathlib.Core.Path.{_≡_, refl, sym, ap, _∙_}
-use mathlib.Core.List.{List, []}
+use mathlib.Core.Path.{_≡_, sym, _∙_}
+use mathlib.Core.List.{[]}
 use Prim.Native.Nat.{ℕ, _-_, _≤_}
 use borrow.Author.Needs.{needs}
 use native.Mathlib.Omega.{arith}
 use lib.ListN.{length, take, drop}
 use Rattle.jobtext.specs.Tokens.{scan, within}
-use Rattle.jobtext.proofs.Scan.{word-turn, newline-stop, hash-stop, blank-stop, word-over}
+use Rattle.jobtext.proofs.Scan.{word-turn, newline-stop, hash-stop, blank-stop, word-past}
 use Rattle.jobtext.proofs.word_end.Statement.{statement}
 use Rattle.jobtext.proofs.word_end.Tie as tie
 
@@ -37,7 +37,9 @@ loop-less c = omega arith
 loop-again : tie.Need-loop-again Inv-loop μ-loop
 loop-again c =
     let i = c .before .before .before .before .before .loop in
-    (omega arith, omega arith, λ l. i .inv .2 l ∙ word-turn _ (i .end) (omega arith) (c .before .before .before .before .before .before .before .args .at) l (i .inv .0) (sym (c .before .before .class-of .ensures) ∙ c .enum-told .given .1))
+    let at = c .before .before .before .before .before .before .before .args .at in
+    let other = sym (c .before .before .class-of .ensures) ∙ c .enum-told .given .1 in
+    (omega arith, omega arith, λ l. i .inv .2 l ∙ word-turn _ (i .end) (omega arith) at l (i .inv .0) other)
 
 enum-told-2 : tie.Need-enum-told-2 Inv-loop μ-loop
 enum-told-2 c = search needs
@@ -66,7 +68,7 @@ returns-3 c =
 returns-4 : tie.Need-returns-4 Inv-loop μ-loop
 returns-4 c =
     let i = c .before .loop in
-    (i .inv .0, i .inv .1, λ l. i .inv .2 l ∙ word-over _ (i .end) (omega arith) l _)
+    (i .inv .0, i .inv .1, λ l. i .inv .2 l ∙ word-past _ (i .end) (omega arith) l _)
 
 pub word-end-spec : {M : Type 1} → statement M
 word-end-spec =

@@ -1,6 +1,6 @@
 -- `put_degrees` meets its contract: its pieces are appended one after the other.
 use Rattle.report.specs.Text.{degrees}
-use Rattle.report.specs.Words.{row}
+use Rattle.report.specs.Words.{rowWord}
 use Rattle.report.proofs.Wrote.{room-first, room-rest, wrote-append}
 use borrow.Author.Needs.{needs}
 use Rattle.report.proofs.put_degrees.Statement.{statement}
@@ -11,7 +11,7 @@ slice-aggregate-put c = search needs
 
 put-requires : tie.Need-put-requires
 unfolding degrees
-put-requires c κs = room-first row _ (c .before .before .before .pre .1)
+put-requires c κs = room-first rowWord _ (c .before .before .before .pre .1)
 
 add-put-number : tie.Need-add-put-number
 add-put-number c = search needs
@@ -43,9 +43,9 @@ put-requires-2 c κs =
     let start = named .before .before .before .before in
     room-rest (room-first _ _ (start .pre .1)) (wrote-append (wrote-append (named .put .ensures) (counted .put-number .ensures)) (pivoted .put-number2 .ensures))
 
-put-difference-requires : tie.Need-put-difference-requires
+put-shifted-requires : tie.Need-put-shifted-requires
 unfolding degrees
-put-difference-requires c κs =
+put-shifted-requires c κs =
     let spaced = c .before .before .before in
     let pivoted = spaced .before .before .before .before .before in
     let counted = pivoted .before .before .before .before in
@@ -64,7 +64,7 @@ returns c =
     let pivoted = spaced .before .before .before .before .before in
     let counted = pivoted .before .before .before .before in
     let named = counted .before .before .before .before in
-    wrote-append (wrote-append (wrote-append (wrote-append (named .put .ensures) (counted .put-number .ensures)) (pivoted .put-number2 .ensures)) (spaced .put2 .ensures)) (shifted .put-difference .ensures)
+    wrote-append (wrote-append (wrote-append (wrote-append (named .put .ensures) (counted .put-number .ensures)) (pivoted .put-number2 .ensures)) (spaced .put2 .ensures)) (shifted .put-shifted .ensures)
 
 pub put-degrees-spec : {M : Type 1} → statement M
 put-degrees-spec =
@@ -77,6 +77,6 @@ put-degrees-spec =
     put-number-requires-2
     slice-aggregate-put-2
     put-requires-2
-    put-difference-requires
+    put-shifted-requires
     same-length
     returns)

@@ -33,7 +33,10 @@ put-number-requires c κs =
     room-same (ap numbers (shown-zero _ (sym (at-used .used .ensures) ∙ c .before .if1 .taken))) (room-rest (start .pre) (at-put .put .ensures))
 
 slice-aggregate-put-numbers : tie.Need-slice-aggregate-put-numbers
-slice-aggregate-put-numbers c = sym (length-take-le _ _ (omega (arith, trim-short (c .before .before .before .before .before .before .before .before .before .before .args .entry .now), c .before .before .used .ensures)))
+slice-aggregate-put-numbers c =
+    let at-used = c .before .before in
+    let start = at-used .before .before .before .before .before .before .before .before in
+    sym (length-take-le _ _ (omega (arith, trim-short (start .args .entry .now), at-used .used .ensures)))
 
 put-numbers-requires : tie.Need-put-numbers-requires
 unfolding entryText
@@ -42,7 +45,8 @@ put-numbers-requires c κs =
     let at-used = at-if1 .before in
     let at-put = at-used .before .before .before in
     let start = at-put .before .before .before .before .before in
-    room-same (ap numbers (shown-front _ (λ z. at-if1 .if1 .left (at-used .used .ensures ∙ z)) ∙ ap (λ (j : ℕ). take j (start .args .entry .now)) (sym (at-used .used .ensures)))) (room-rest (start .pre) (at-put .put .ensures))
+    let front = shown-front _ (λ z. at-if1 .if1 .left (at-used .used .ensures ∙ z)) ∙ ap (λ (j : ℕ). take j (start .args .entry .now)) (sym (at-used .used .ensures)) in
+    room-same (ap numbers front) (room-rest (start .pre) (at-put .put .ensures))
 
 same-length : tie.Need-same-length
 same-length c = search needs
@@ -67,7 +71,8 @@ returns-2 c =
     let at-used = at-if1 .before in
     let at-put = at-used .before .before .before in
     let start = at-put .before .before .before .before .before in
-    wrote-append (at-put .put .ensures) (wrote-same (sym (ap numbers (shown-front _ (λ z. at-if1 .if1 .left (at-used .used .ensures ∙ z)) ∙ ap (λ (j : ℕ). take j (start .args .entry .now)) (sym (at-used .used .ensures))))) (at-put-numbers .put-numbers .ensures))
+    let front = shown-front _ (λ z. at-if1 .if1 .left (at-used .used .ensures ∙ z)) ∙ ap (λ (j : ℕ). take j (start .args .entry .now)) (sym (at-used .used .ensures)) in
+    wrote-append (at-put .put .ensures) (wrote-same (sym (ap numbers front)) (at-put-numbers .put-numbers .ensures))
 
 pub put-entry-spec : {M : Type 1} → statement M
 put-entry-spec =

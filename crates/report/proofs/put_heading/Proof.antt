@@ -1,5 +1,6 @@
 -- `put_heading` meets its contract: its pieces are appended one after the other.
-use Rattle.report.specs.Text.{heading}
+use Rattle.report.specs.Decimal.{signed}
+use Rattle.report.specs.Text.{number, numbers, typeNumbers, heading}
 use Rattle.report.proofs.Wrote.{room-first, room-rest, wrote-append}
 use borrow.Author.Needs.{needs}
 use Rattle.report.proofs.put_heading.Statement.{statement}
@@ -20,7 +21,7 @@ put-requires c κs =
     room-rest (room-first _ _ (room-first _ _ (start .pre))) (sized .put-sizes .ensures)
 
 put-numbers-requires : tie.Need-put-numbers-requires
-unfolding heading
+unfolding heading typeNumbers numbers number signed
 put-numbers-requires c κs =
     let typed = c .before .before .before in
     let sized = typed .before .before .before .before .before in
@@ -31,7 +32,7 @@ slice-aggregate-put-2 : tie.Need-slice-aggregate-put-2
 slice-aggregate-put-2 c = search needs
 
 put-requires-2 : tie.Need-put-requires-2
-unfolding heading
+unfolding heading typeNumbers numbers number signed
 put-requires-2 c κs =
     let entries = c .before .before .before .before in
     let typed = entries .before .before .before .before in
@@ -43,7 +44,7 @@ same-length : tie.Need-same-length
 same-length c = search needs
 
 returns : tie.Need-returns
-unfolding heading
+unfolding heading typeNumbers numbers number signed
 returns c =
     let ended = c .before .before in
     let entries = ended .before .before .before .before .before in

@@ -8,7 +8,7 @@ use Rattle.words.specs.Part.{part}
 use Rattle.words.proofs.Part.{part-fits, part-length}
 use Rattle.report.specs.Text.{rowLine, rowLines}
 use Rattle.report.specs.Wrote.{Wrote}
-use Rattle.report.proofs.Bound.{width-most}
+use Rattle.words.proofs.Sizes.{row-small}
 use Rattle.report.proofs.Wrote.{wrote-none, wrote-each, room-each, wrote-length, room-same, wrote-same}
 use Rattle.report.proofs.put_rows.Statement.{statement}
 use Rattle.report.proofs.put_rows.Tie as tie
@@ -22,7 +22,7 @@ abbrev μ-loop : tie.MeasureT-loop
 mul-width : tie.Need-mul-width Inv-loop μ-loop
 mul-width c =
     let a = c .before .before .before .args in
-    omega (arith, width-most (a .n) (a .w) (omega arith) (omega arith))
+    omega (arith, row-small (a .n) (a .w) (omega arith) (omega arith))
 
 loop-holds : tie.Need-loop-holds Inv-loop μ-loop
 unfolding each
@@ -42,9 +42,17 @@ shared-slice-read-put-row c = omega arith
 put-row-requires : tie.Need-put-row-requires Inv-loop μ-loop
 unfolding rowLines
 put-row-requires c κs =
-    let a = c .before .before .before .before .before .before .before .before .args in
-    let l = c .before .before .before .before .loop in
-    (omega arith, omega arith, ap length (c .before .before .part-at .ensures) ∙ part-length _ _ _ (omega (arith, part-fits (a .n) (a .n * a .w) (l .i) (omega arith))), room-same (ap (rowLine _ _ _ _) (sym (c .before .before .part-at .ensures))) (room-each _ _ (l .i) (omega arith) (c .before .before .before .before .before .before .before .before .pre .4) (l .inv .1)))
+    let at-loop = c .before .before .before .before in
+    let start = at-loop .before .before .before .before in
+    let i = at-loop .loop .i in
+    let row = c .before .before .part-at .ensures in
+    let fits = part-fits (start .args .n) (start .args .n * start .args .w) i (omega arith) in (
+      omega arith,
+      omega arith,
+      omega arith,
+      ap length row ∙ part-length _ _ _ (omega (arith, fits)),
+      room-same (ap (rowLine _ _ _ _) (sym row)) (room-each _ _ i (omega arith) (start .pre .4) (at-loop .loop .inv .1)),
+    )
 
 add-i : tie.Need-add-i Inv-loop μ-loop
 add-i c = omega arith

@@ -1,6 +1,6 @@
 -- `put_sizes` meets its contract: its pieces are appended one after the other.
 use Rattle.report.specs.Text.{sizes}
-use Rattle.report.specs.Words.{relations}
+use Rattle.report.specs.Words.{relationsWord}
 use Rattle.report.proofs.Wrote.{room-first, room-rest, wrote-append}
 use borrow.Author.Needs.{needs}
 use Rattle.report.proofs.put_sizes.Statement.{statement}
@@ -11,7 +11,7 @@ slice-aggregate-put c = search needs
 
 put-requires : tie.Need-put-requires
 unfolding sizes
-put-requires c κs = room-first relations _ (c .before .before .before .pre)
+put-requires c κs = room-first relationsWord _ (c .before .before .before .pre)
 
 put-number-requires : tie.Need-put-number-requires
 unfolding sizes

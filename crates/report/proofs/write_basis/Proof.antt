@@ -5,7 +5,7 @@ use Prim.Native.Nat.{ℕ, _^_, _<_}
 use lib.ListN.{length}
 use native.Mathlib.Omega.{arith}
 use Rattle.field.proofs.Tests.{passed, answers, refuses}
-use Rattle.report.specs.Calls.{BasisOutcome}
+use Rattle.report.specs.Calls.{BasisTextOutcome}
 use Rattle.report.specs.Text.{basisText}
 use Rattle.report.specs.Wrote.{Room}
 use Rattle.report.proofs.Bound.{Words, basis-fits}
@@ -28,12 +28,23 @@ test-basis-requires c κs = search needs
 enum-told : tie.Need-enum-told
 enum-told c = search needs
 
+-- the place where the tests have passed
+passes : (c : tie.After-enum-told) →
+    let a = c .before .before .before .before .before .before .args in
+    Passed (a .n) (a .s) (length (a .d .now)) (length (a .basis .now)) (length (a .out .now)) × Room (basisText (a .p) (a .n) (a .s) (a .d .now) (a .basis .now) (a .least)) (a .out .now) 0
+passes c =
+    let lent = c .before .before .before .before in
+    let start = lent .before .before in
+    let a = start .args in
+    let b = basis-passed _ _ _ _ _ (passed _ _ (c .before .before .test-basis .ensures) (c .enum-told .given .1)) in
+    let typed : Words (a .d .now) = λ k. lent .before .shared-slice-known .given k .fits in
+    let filled : Words (a .basis .now) = λ k. lent .shared-slice-known2 .given k .fits in
+    (b, room (a .p) (a .n) (a .s) (a .d .now) (a .basis .now) (a .least) (a .out .now) (start .fits .p .fits) (start .fits .least .fits) typed filled b)
+
 put-basis-requires : tie.Need-put-basis-requires
 put-basis-requires c κs =
-    let start = c .before .before .before .before .before .before .before in
-    let a = start .args in
-    let b = basis-passed _ _ _ _ _ (passed _ _ (c .before .before .before .test-basis .ensures) (c .before .enum-told .given .1)) in
-    (b .rows, b .order, b .typed, b .filled, room (a .p) (a .n) (a .s) (a .d .now) (a .basis .now) (a .least) (a .out .now) (start .fits .p .fits) (start .fits .least .fits) (λ k. c .before .before .before .before .before .before .shared-slice-known .given k .fits) (λ k. c .before .before .before .before .before .shared-slice-known2 .given k .fits) b)
+    let b = passes (c .before) .0 in
+    (b .rows, b .order, b .typed, b .filled, passes (c .before) .1)
 
 enum-known-k : tie.Need-enum-known-k
 enum-known-k c = search needs
@@ -42,17 +53,13 @@ same-length : tie.Need-same-length
 same-length c = search needs
 
 returns : tie.Need-returns
-unfolding BasisOutcome
+unfolding BasisTextOutcome
 returns c =
-    let start = c .before .before .before .before .before .before .before .before .before .before in
-    let a = start .args in
-    let tests = c .before .before .before .before .before .before .test-basis .ensures in
-    let told = c .before .before .before .before .enum-told .given .1 in
-    let b = basis-passed _ _ _ _ _ (passed _ _ tests told) in
-    answers _ _ _ _ tests told (wrote-answer (room (a .p) (a .n) (a .s) (a .d .now) (a .basis .now) (a .least) (a .out .now) (start .fits .p .fits) (start .fits .least .fits) (λ k. c .before .before .before .before .before .before .before .before .before .shared-slice-known .given k .fits) (λ k. c .before .before .before .before .before .before .before .before .shared-slice-known2 .given k .fits) b) (c .before .before .put-basis .ensures))
+    let told = c .before .before .before .before in
+    answers _ _ _ _ (told .before .before .test-basis .ensures) (told .enum-told .given .1) (wrote-answer (passes told .1) (c .before .before .put-basis .ensures))
 
 returns-2 : tie.Need-returns-2
-unfolding BasisOutcome
+unfolding BasisTextOutcome
 returns-2 c = refuses _ _ _ _ (c .before .before .before .test-basis .ensures) _ (c .before .k .given .1) (refl, refl)
 
 pub write-basis-spec : {M : Type 1} → statement M

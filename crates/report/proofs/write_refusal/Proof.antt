@@ -6,7 +6,7 @@ use Prim.Native.Nat.{ℕ, _^_, _<_}
 use lib.ListN.{length}
 use native.Mathlib.Omega.{arith}
 use Rattle.field.specs.Refusal.{NoTest, First, Outcome}
-use Rattle.report.specs.Calls.{RefusalOutcome, textBytes}
+use Rattle.report.specs.Calls.{RefusalTextOutcome, textBytes}
 use Rattle.report.specs.Text.{refusalText}
 use Rattle.report.specs.Wrote.{Room}
 use Rattle.report.proofs.Bound.{refusal-fits}
@@ -20,7 +20,7 @@ room : (k : ℕ) (out : List ℕ) → k < 2 ^ 32 → length out ≡ textBytes �
 room k out h e = record { fits = omega (arith, refusal-fits k h) }
 
 returns : tie.Need-returns
-unfolding RefusalOutcome Outcome First
+unfolding RefusalTextOutcome Outcome First
 returns c = inr (4, inl (c .if1 .taken, refl), (refl, refl))
 
 slice-aggregate-put-numbered : tie.Need-slice-aggregate-put-numbered
@@ -36,7 +36,7 @@ same-length : tie.Need-same-length
 same-length c = search needs
 
 returns-2 : tie.Need-returns-2
-unfolding RefusalOutcome Outcome NoTest refusalText
+unfolding RefusalTextOutcome Outcome NoTest refusalText
 returns-2 c =
     let start = c .before .before .before .before .before .before .before in
     inl (((λ h. h (c .before .before .before .before .before .if1 .left)), tt), wrote-answer (room (start .args .k) (start .args .out .now) (start .fits .k .fits) (omega arith)) (c .before .before .put-numbered .ensures))

@@ -4,7 +4,7 @@ use Prim.Native.Nat.{_+_, _*_, _-_, _%_, _≤_}
 use native.Mathlib.Omega.{arith}
 use native.Mathlib.Nat.{add-zero, mul-zero, mod-eq-of-lt}
 use native.Mathlib.Decide.{decLt}
-use Rattle.row.specs.View.{poly}
+use Rattle.words.specs.Polynomial.{poly}
 use Rattle.words.proofs.Written.{Written, written-none, written-turn}
 use Rattle.row.proofs.add_multiple.Statement.{statement}
 use Rattle.row.proofs.add_multiple.Tie as tie

@@ -2,7 +2,7 @@
 use mathlib.Core.Path.{refl, sym, _∙_, fun-ext}
 use native.Mathlib.Nat.{mod-eq-of-lt}
 use Rattle.field.proofs.Residue.{drop-mult}
-use Rattle.relation.proofs.Vector.{addMultiple}
+use Rattle.relation.specs.Operations.{addMultiple}
 use borrow.Author.Needs.{needs}
 use Rattle.row.proofs.add_row_multiple.Statement.{statement}
 use Rattle.row.proofs.add_row_multiple.Tie as tie

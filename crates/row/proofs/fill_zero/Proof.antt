@@ -4,7 +4,7 @@ use Prim.Native.Nat.{_-_, _≤_}
 use native.Mathlib.Omega.{arith}
 use lib.ListN.{length}
 use native.Mathlib.Decide.{decLt}
-use Rattle.row.specs.View.{poly}
+use Rattle.words.specs.Polynomial.{poly}
 use Rattle.row.proofs.Part.{poly-past}
 use Rattle.words.proofs.Written.{Written, written-none, written-turn}
 use Rattle.row.proofs.fill_zero.Statement.{statement}

@@ -1,12 +1,12 @@
 -- `plus_entry_product` meets its contract: after t turns the total is the sum with the first t terms of the product's coefficient.
 use mathlib.Core.Path.{_≡_, sym, _∙_}
-use Prim.Native.Nat.{_+_, _*_, _-_, _%_, _≤_}
+use Prim.Native.Nat.{min, _+_, _*_, _-_, _%_, _≤_}
 use native.Mathlib.Nat.{add-zero, mod-eq-of-lt}
 use native.Mathlib.Omega.{arith}
 use Rattle.relation.specs.Sum.{sumTo}
-use Rattle.relation.proofs.Product.{conv-short}
-use Rattle.row.specs.View.{poly}
-use Rattle.row.proofs.Turn.{sum-turn}
+use Rattle.words.specs.Polynomial.{poly}
+use Rattle.row.proofs.Turn.{sum-turn, conv-end}
+use borrow.Author.Needs.{needs}
 use Rattle.row.proofs.plus_entry_product.Statement.{statement}
 use Rattle.row.proofs.plus_entry_product.Tie as tie
 
@@ -16,6 +16,9 @@ Inv-loop f sum entry series at end total₀ t₀ total t =
 
 abbrev μ-loop : tie.MeasureT-loop
 μ-loop f sum entry series at end total₀ t₀ total t = end - t
+
+smaller-requires : tie.Need-smaller-requires Inv-loop μ-loop
+smaller-requires c κs = search needs
 
 add-end : tie.Need-add-end Inv-loop μ-loop
 add-end c = omega arith
@@ -58,7 +61,9 @@ returns : tie.Need-returns Inv-loop μ-loop
 returns c =
     let l = c .before .loop in
     let start = c .before .before .before .before .before in
-    l .inv .1 ∙ rw (conv-short (poly (start .args .entry .now)) (poly (start .args .series .now)) (l .t) (start .args .at) (omega arith) (λ k g. start .pre .4 k (omega arith)))
+    let args = start .args in
+    let end : l .t ≡ min (args .top .0) (args .at) + 1 = omega arith in
+    l .inv .1 ∙ rw (conv-end (poly (args .entry .now)) (poly (args .series .now)) (args .top .0) (args .at) (start .pre .3), end)
 
 pub plus-entry-product-spec : {M : Type 1} → statement M
 plus-entry-product-spec =
@@ -66,6 +71,7 @@ plus-entry-product-spec =
     (tie.spec
     Inv-loop
     μ-loop
+    smaller-requires
     add-end
     loop-holds
     mul-plus-product

@@ -47,12 +47,12 @@ plus-entry-product-requires c κs =
     let args = start .args in
     let l = c .before .before .before .before .loop in
     let h : l .k < args .n = omega arith in
-    let top = start .pre .1 .0 (l .k) h in (
+    let entry = part-length (args .s + 1) (l .k) (args .row .now) (omega (arith, part-fits (args .n) (args .s + 1) (l .k) h)) in
+    let series = part-length (args .s) (l .k) (args .series .now) (omega (arith, part-fits (args .n) (args .s) (l .k) h)) in (
       rw (l .inv .1) (mod-lt _ (omega arith)),
-      rw (c .before .part-at .ensures, part-length (args .s + 1) (l .k) (args .row .now) (omega (arith, part-fits (args .n) (args .s + 1) (l .k) h))) (omega (arith, top)),
-      top,
-      rw (c .part-at2 .ensures, part-length (args .s) (l .k) (args .series .now) (omega (arith, part-fits (args .n) (args .s) (l .k) h))) (omega arith),
-      λ t g. rw (c .before .part-at .ensures) (start .pre .1 .1 (l .k) h t g),
+      rw (c .before .part-at .ensures, entry) (omega arith),
+      rw (c .part-at2 .ensures, series) (omega arith),
+      λ t g. rw (c .before .part-at .ensures) (start .pre .1 (l .k) h t g),
     )
 
 add-k : tie.Need-add-k Inv-loop μ-loop

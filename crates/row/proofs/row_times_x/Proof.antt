@@ -3,12 +3,13 @@ use mathlib.Core.Path.{_≡_, ap, sym, _∙_}
 use Prim.Native.Nat.{ℕ, _+_, _*_, _-_, _≤_}
 use native.Mathlib.Omega.{arith}
 use lib.ListN.{length}
-use Rattle.row.specs.View.{poly, vector}
+use Rattle.words.specs.Polynomial.{poly}
+use Rattle.row.specs.View.{vector}
 use Rattle.row.proofs.Part.{row-ext, vector-out}
 use Rattle.words.proofs.Part.{part-fits, part-length, lent-length}
 use Rattle.words.proofs.Written.{PartsDone, parts-none, parts-turn}
 use Rattle.row.proofs.TimesX.{times-x-entry, times-x-zero}
-use Rattle.relation.proofs.Vector.{timesX}
+use Rattle.relation.specs.Operations.{timesX}
 use Rattle.row.proofs.row_times_x.Statement.{statement}
 use Rattle.row.proofs.row_times_x.Tie as tie
 
@@ -21,17 +22,26 @@ abbrev μ-loop : tie.MeasureT-loop
 loop-holds : tie.Need-loop-holds Inv-loop μ-loop
 loop-holds c = (omega arith, parts-none _ _ _)
 
+-- the entry of the function, and part k in its words
+abbrev start : tie.In-loop Inv-loop μ-loop → tie.Start Inv-loop μ-loop
+start c = c .before .before .before .before
+
+entry-fits : (c : tie.In-loop Inv-loop μ-loop)
+    → let args = start c .args in
+    c .before .loop .k * args .width + args .width ≤ args .n * args .width
+entry-fits c = part-fits (start c .args .n) (start c .args .width) (c .before .loop .k) (omega arith)
+
 mul-start : tie.Need-mul-start Inv-loop μ-loop
-mul-start c = omega (arith, part-fits (c .before .before .before .before .args .n) (c .before .before .before .before .args .width) (c .before .loop .k) (omega arith))
+mul-start c = omega (arith, entry-fits c)
 
 add-end : tie.Need-add-end Inv-loop μ-loop
-add-end c = omega (arith, part-fits (c .before .before .before .before .args .n) (c .before .before .before .before .args .width) (c .before .loop .k) (omega arith))
+add-end c = omega (arith, entry-fits c)
 
 part-at-requires : tie.Need-part-at-requires Inv-loop μ-loop
-part-at-requires c κs = omega (arith, part-fits (c .before .before .before .before .args .n) (c .before .before .before .before .args .width) (c .before .loop .k) (omega arith))
+part-at-requires c κs = omega (arith, entry-fits c)
 
 mul-times-x : tie.Need-mul-times-x Inv-loop μ-loop
-mul-times-x c = omega (arith, part-fits (c .before .before .before .before .before .args .n) (c .before .before .before .before .before .args .width) (c .before .before .loop .k) (omega arith))
+mul-times-x c = omega (arith, entry-fits (c .before))
 
 sub-times-x : tie.Need-sub-times-x Inv-loop μ-loop
 sub-times-x c = omega arith
@@ -40,19 +50,20 @@ part-times-x-start : tie.Need-part-times-x-start Inv-loop μ-loop
 part-times-x-start c = omega arith
 
 part-times-x-end : tie.Need-part-times-x-end Inv-loop μ-loop
-part-times-x-end c = omega (arith, part-fits (c .before .before .before .before .before .args .n) (c .before .before .before .before .before .args .width) (c .before .before .loop .k) (omega arith))
+part-times-x-end c = omega (arith, entry-fits (c .before))
 
 times-x-requires : tie.Need-times-x-requires Inv-loop μ-loop
 unfolding vector
 times-x-requires c κs =
-    let start = c .before .before .before .before .before .before in
-    let args = start .args in
-    let l = c .before .before .before .loop in
-    let fits : l .k * args .width + args .width ≤ args .n * args .width = part-fits (args .n) (args .width) (l .k) (omega arith) in
-    let e : length (c .before .part-at .result .now) ≡ args .width = ap length (c .before .part-at .ensures) ∙ part-length (args .width) (l .k) (args .row .now) (omega arith) in (
+    let cut = c .before .part-at in
+    let turn = c .before .before in
+    let args = start turn .args in
+    let l = turn .before .loop in
+    let fits = entry-fits turn in
+    let e : length (cut .result .now) ≡ args .width = ap length (cut .ensures) ∙ part-length (args .width) (l .k) (args .row .now) (omega arith) in (
       omega arith,
       lent-length (args .width) (l .k) (l .into) (omega arith) ∙ sym e,
-      rw (e, c .before .part-at .ensures) (start .pre .1 (l .k) (omega arith)),
+      rw (e, cut .ensures) (start turn .pre .1 (l .k) (omega arith)),
     )
 
 add-k : tie.Need-add-k Inv-loop μ-loop
@@ -64,14 +75,16 @@ loop-less c = omega arith
 loop-again : tie.Need-loop-again Inv-loop μ-loop
 unfolding vector
 loop-again c =
-    let l = c .before .before .before .before .before .before .loop in
-    let args = c .before .before .before .before .before .before .before .before .before .args in
-    let fits : l .k * args .width + args .width ≤ args .n * args .width = part-fits (args .n) (args .width) (l .k) (omega arith) in
-    let moved = c .before .before .times-x in (
+    let moved = c .before .before .times-x in
+    let cut = c .before .before .before .before in
+    let turn = cut .before in
+    let args = start turn .args in
+    let l = turn .before .loop in
+    let fits = entry-fits turn in (
       omega arith,
       parts-turn (args .width) _ _ (l .into) (moved .last .1 .0) (l .k) (omega arith)
           (moved .ensures .0 ∙ lent-length (args .width) (l .k) (l .into) (omega arith))
-          (λ t. moved .ensures .1 t ∙ rw (c .before .before .before .before .part-at .ensures) (times-x-entry (vector (args .width) (args .row .now)) (l .k) t))
+          (λ t. moved .ensures .1 t ∙ rw (cut .part-at .ensures) (times-x-entry (vector (args .width) (args .row .now)) (l .k) t))
           (l .inv .1),
     )
 

@@ -1,15 +1,15 @@
 -- `times_x` meets its contract: below t the coefficients are those of X times the entry.
 use mathlib.Core.Path.{_≡_, refl, sym, _∙_}
-use Prim.Native.Nat.{_-_, _≤_}
+use Prim.Native.Nat.{_-_, _≤_, _<_}
 use native.Mathlib.Omega.{arith}
 use lib.ListN.{length, length-set}
 use native.Mathlib.Decide.{decLt}
 use lib.Seq.{getD-set-same}
-use Rattle.row.specs.View.{poly}
+use Rattle.words.specs.Polynomial.{poly}
 use Rattle.row.proofs.Part.{poly-past}
 use Rattle.row.proofs.TimesX.{times-x-at, times-x-end}
 use Rattle.words.proofs.Written.{Written, written-turn}
-use Rattle.relation.proofs.Vector.{timesX}
+use Rattle.relation.specs.Operations.{timesX}
 use Rattle.row.proofs.times_x.Statement.{statement}
 use Rattle.row.proofs.times_x.Tie as tie
 
@@ -60,7 +60,9 @@ loop-again : tie.Need-loop-again Inv-loop μ-loop
 unfolding poly
 loop-again c =
     let l = c .before .before .loop in
-    (omega arith, omega arith, written-turn _ _ (l .into) (l .t) _ (omega (arith, length-set (c .before .before .before .args .into .now) 0 0)) (times-x-at (c .before .before .before .args .entry .now) (l .t) (omega arith)) (l .inv .2))
+    let args = c .before .before .before .args in
+    let inside : l .t < length (l .into) = omega (arith, length-set (args .into .now) 0 0) in
+    (omega arith, omega arith, written-turn _ _ (l .into) (l .t) _ inside (times-x-at (args .entry .now) (l .t) (omega arith)) (l .inv .2))
 
 same-length : tie.Need-same-length Inv-loop μ-loop
 same-length c = omega (arith, length-set (c .before .before .args .into .now) 0 0)

@@ -1,12 +1,12 @@
 -- `clear_columns` meets its contract: after k turns the multiples of the first k rows are added.
 use mathlib.Core.Path.{_≡_, refl, ap, _∙_}
 use mathlib.Core.Logic.{⊎-elim}
-use Prim.Native.Nat.{_*_, _-_, _≤_}
+use Prim.Native.Nat.{_+_, _*_, _-_, _≤_, _<_}
 use native.Mathlib.Nat.{le-of-lt}
 use native.Mathlib.Omega.{arith}
 use lib.ListN.{length}
 use Rattle.row.specs.View.{vector, row, degreeAt}
-use Rattle.relation.proofs.Vector.{addMultiples}
+use Rattle.relation.specs.Operations.{addMultiples}
 use Rattle.row.proofs.Part.{vector-at}
 use Rattle.words.proofs.Part.{part-fits, part-length}
 use Rattle.step.specs.Factor.{columnFactor}
@@ -15,7 +15,9 @@ use Rattle.step.proofs.clear_columns.Statement.{statement}
 use Rattle.step.proofs.clear_columns.Tie as tie
 
 abbrev Inv-loop : tie.InvT-loop
-Inv-loop f moved₀ basis i n width tops p size k₀ moved k = (k ≤ n) × (length moved ≡ length moved₀) × (vector width moved ≡ addMultiples (f .modulus) k (columnFactor (f .modulus) i (degreeAt tops) (vector width moved₀)) (row n width basis) (vector width moved₀))
+Inv-loop f moved₀ basis i n width tops p size k₀ moved k =
+    let m = columnFactor (f .modulus) i (degreeAt tops) (vector width moved₀) in
+    (k ≤ n) × (length moved ≡ length moved₀) × (vector width moved ≡ addMultiples (f .modulus) k m (row n width basis) (vector width moved₀))
 
 abbrev μ-loop : tie.MeasureT-loop
 μ-loop f moved₀ basis i n width tops p size k₀ moved k = n - k
@@ -32,51 +34,62 @@ mul-top c = omega arith
 array-copy-out-top : tie.Need-array-copy-out-top Inv-loop μ-loop
 array-copy-out-top c = omega arith
 
-mul-at : tie.Need-mul-at Inv-loop μ-loop
-mul-at c =
-    let start = c .before .before .before .before .before .before in
+-- the entry, and the place of the coefficient that is cleared
+abbrev start : tie.After-top Inv-loop μ-loop → tie.Start Inv-loop μ-loop
+start c = c .before .before .before .before .before .before
+
+place-fits : (c : tie.After-top Inv-loop μ-loop)
+    → let args = start c .args in
     let k = c .before .before .before .loop .k in
-    omega (arith, part-fits (start .args .n) (start .args .width) k (omega arith), start .pre .1 .0 k (omega arith))
+    k * args .width + degreeAt (args .t5) k < args .n * args .width
+place-fits c =
+    let args = start c .args in
+    let k = c .before .before .before .loop .k in
+    omega (arith, part-fits (args .n) (args .width) k (omega arith), start c .pre .1 .0 k (omega arith))
+
+mul-at : tie.Need-mul-at Inv-loop μ-loop
+mul-at c = omega (arith, place-fits c)
 
 add-at : tie.Need-add-at Inv-loop μ-loop
-add-at c =
-    let start = c .before .before .before .before .before .before in
-    let k = c .before .before .before .loop .k in
-    omega (arith, part-fits (start .args .n) (start .args .width) k (omega arith), start .pre .1 .0 k (omega arith))
+add-at c = omega (arith, place-fits c)
 
 mul-a : tie.Need-mul-a Inv-loop μ-loop
-mul-a c =
-    let start = c .before .before .before .before .before .before in
-    let k = c .before .before .before .loop .k in
-    omega (arith, part-fits (start .args .n) (start .args .width) k (omega arith), start .pre .1 .0 k (omega arith))
+mul-a c = omega (arith, place-fits c)
 
 slice-read-a : tie.Need-slice-read-a Inv-loop μ-loop
-slice-read-a c =
-    let start = c .before .before .before .before .before .before .before in
-    let k = c .before .before .before .before .loop .k in
-    omega (arith, part-fits (start .args .n) (start .args .width) k (omega arith), start .pre .1 .0 k (omega arith))
+slice-read-a c = omega (arith, place-fits (c .before))
 
 sub-a : tie.Need-sub-a Inv-loop μ-loop
 sub-a c =
-    let start = c .before .before .before .before .before .before .before in
+    let entry = start (c .before) in
     let l = c .before .before .before .before .loop in
-    let top = start .pre .1 .0 (l .k) (omega arith) in
-    le-of-lt (rw (vector-at (start .args .width) (l .k) (l .moved) _ top, l .inv .2) (addMultiples-below _ _ _ _ _ (omega arith) _ _))
+    let top = entry .pre .1 .0 (l .k) (omega arith) in
+    le-of-lt (rw (vector-at (entry .args .width) (l .k) (l .moved) _ top, l .inv .2) (addMultiples-below _ _ _ _ _ (omega arith) _ _))
 
 part-at-requires : tie.Need-part-at-requires Inv-loop μ-loop
 part-at-requires c κs =
-    let args = c .before .before .before .before .before .before .before .before .args in
-    omega (arith, part-fits (args .n) (args .n * args .width) (c .before .before .before .before .before .loop .k) (omega arith))
+    let top = c .before .before in
+    let args = start top .args in
+    omega (arith, part-fits (args .n) (args .n * args .width) (top .before .before .before .loop .k) (omega arith))
 
 add-row-multiple-requires : tie.Need-add-row-multiple-requires Inv-loop μ-loop
 unfolding row
 add-row-multiple-requires c κs =
-    let start = c .before .before .before .before .before .before .before .before .before in
-    let args = start .args in
-    let l = c .before .before .before .before .before .before .loop in
-    let size = args .n * args .width in (
-      (omega arith, omega arith, l .inv .1 ∙ start .pre .0 .4, ap length (c .part-at .ensures) ∙ part-length size (l .k) (args .basis .now) (omega (arith, part-fits (args .n) size (l .k) (omega arith)))),
-      (start .pre .1 .0, (λ k t. rw (l .inv .2) (addMultiples-below _ _ _ _ _ (omega arith) k t), λ k h t g. rw (c .part-at .ensures) (start .pre .1 .1 .1 .0 (l .k) (omega arith) (c .before .before .before .before .if1 .taken) k h t g))),
+    let top = c .before .before .before in
+    let pre = start top .pre in
+    let args = start top .args in
+    let l = top .before .before .before .loop in
+    let size = args .n * args .width in
+    let fits = part-fits (args .n) size (l .k) (omega arith) in
+    let other = top .before .if1 .taken in (
+      (omega arith, omega arith, l .inv .1 ∙ pre .0 .4, ap length (c .part-at .ensures) ∙ part-length size (l .k) (args .basis .now) (omega arith)),
+      (
+        pre .1 .0,
+        (
+          λ k t. rw (l .inv .2) (addMultiples-below _ _ _ _ _ (omega arith) k t),
+          λ k h t g. rw (c .part-at .ensures) (pre .1 .1 .1 .0 (l .k) (omega arith) other k h t g),
+        ),
+      ),
     )
 
 add-k : tie.Need-add-k Inv-loop μ-loop

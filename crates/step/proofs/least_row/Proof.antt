@@ -4,13 +4,13 @@ use Prim.Native.Nat.{_-_, _≤_}
 use native.Mathlib.Omega.{arith}
 use lib.ListN.{getD}
 use Rattle.row.specs.View.{degreeAt}
-use Rattle.step.specs.Shift.{shift}
+use Rattle.step.specs.Offset.{offsetOf}
 use Rattle.step.proofs.Search.{BestOf, best-none, best-at-most, best-skip, best-turn, best-found, best-nothing}
 use Rattle.step.proofs.least_row.Statement.{statement}
 use Rattle.step.proofs.least_row.Tie as tie
 
 abbrev Inv-loop : tie.InvT-loop
-Inv-loop tops d n flags best₀ l₀ best l = (l ≤ n) × BestOf n (λ k. getD flags k 0) (shift d) (degreeAt tops) l best
+Inv-loop tops d n flags best₀ l₀ best l = (l ≤ n) × BestOf n (λ k. getD flags k 0) (offsetOf d) (degreeAt tops) l best
 
 abbrev μ-loop : tie.MeasureT-loop
 μ-loop tops d n flags best₀ l₀ best l = n - l

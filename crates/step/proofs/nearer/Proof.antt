@@ -1,12 +1,13 @@
 -- `nearer` meets its contract: the rows are compared by their shifted degrees alone.
 use mathlib.Core.Path.{_≡_, refl, sym, _∙_}
 use mathlib.Core.Logic.{inl, inr}
-use Prim.Native.Nat.{ℕ, _+_, _-_, _<_, _≤_}
+use Prim.Native.Nat.{ℕ, _+_}
 use native.Mathlib.Omega.{arith}
-use lib.ListN.{getD}
+use lib.Dec.{ltb}
 use Rattle.row.specs.View.{degreeAt}
 use borrow.Author.Tests.{ltb-true, ltb-false}
-use Rattle.step.specs.Shift.{shift}
+use Rattle.step.specs.Offset.{offsetOf}
+use Rattle.step.proofs.Order.{below-offset}
 use borrow.Author.Needs.{needs}
 use Rattle.step.proofs.nearer.Statement.{statement}
 use Rattle.step.proofs.nearer.Tie as tie
@@ -29,7 +30,7 @@ shared-slice-read-of c = search needs
 of-requires : tie.Need-of-requires
 of-requires c κs =
     let start = c .before .before .before .before in
-    (start .pre .4 _ (omega arith), start .pre .3 .small _ (omega arith))
+    omega (arith, start .pre .4 (start .args .best) (omega arith))
 
 mul-of-3 : tie.Need-mul-of-3
 mul-of-3 c = search needs
@@ -46,32 +47,28 @@ shared-slice-read-of-2 c = search needs
 of-requires-2 : tie.Need-of-requires-2
 of-requires-2 c κs =
     let start = c .before .before .before .before .before .before .before in
-    (start .pre .4 _ (omega arith), start .pre .3 .small _ (omega arith))
+    omega (arith, start .pre .4 (start .args .l) (omega arith))
 
 is-below-requires : tie.Need-is-below-requires
 is-below-requires c κs = search needs
 
+-- the answer of the comparison, by the degrees with their offsets added
+compared : (c : tie.After-is-below)
+    → let args = c .before .before .before .before .before .before .before .before .before .args in
+    let v : ℕ → ℕ = λ k. degreeAt (args .t3) k + offsetOf (args .d .now) k in
+    c .is-below .result ≡ ltb (v (args .l)) (v (args .best))
+compared c =
+    let start = c .before .before .before .before .before .before .before .before .before in
+    let args = start .args in
+    c .is-below .ensures
+    ∙ rw (c .before .of2 .ensures, c .before .before .before .before .of .ensures)
+    (below-offset (start .pre .3) (args .l) (degreeAt (args .t3) (args .l)) (args .best) (degreeAt (args .t3) (args .best)) (omega arith) (omega arith))
+
 returns-2 : tie.Need-returns-2
-unfolding shift
-returns-2 c =
-    let a = c .before .before .before .before .before .before .before .before .before .before .args in
-    let v : ℕ → ℕ = λ k. degreeAt (a .t3) k + (255 - getD (a .d .now) k 0) in
-    let new : c .before .before .of2 .result .0 ≡ v (a .l) = c .before .before .of2 .ensures in
-    let old : c .before .before .before .before .before .of .result .0 ≡ v (a .best) = c .before .before .before .before .before .of .ensures in
-    let h : c .before .before .of2 .result .0 < c .before .before .before .before .before .of .result .0 = ltb-true _ _ (sym (c .before .is-below .ensures) ∙ c .if2 .taken) in
-    let g : v (a .l) < v (a .best) = omega arith in
-    inr (inl (omega arith, g, refl))
+returns-2 c = inr (inl (omega arith, ltb-true _ _ (sym (compared (c .before)) ∙ c .if2 .taken), refl))
 
 returns-3 : tie.Need-returns-3
-unfolding shift
-returns-3 c =
-    let a = c .before .before .before .before .before .before .before .before .before .before .args in
-    let v : ℕ → ℕ = λ k. degreeAt (a .t3) k + (255 - getD (a .d .now) k 0) in
-    let new : c .before .before .of2 .result .0 ≡ v (a .l) = c .before .before .of2 .ensures in
-    let old : c .before .before .before .before .before .of .result .0 ≡ v (a .best) = c .before .before .before .before .before .of .ensures in
-    let h : c .before .before .before .before .before .of .result .0 ≤ c .before .before .of2 .result .0 = ltb-false _ _ (sym (c .before .is-below .ensures) ∙ c .if2 .left) in
-    let g : v (a .best) ≤ v (a .l) = omega arith in
-    inr (inr (omega arith, g, refl))
+returns-3 c = inr (inr (omega arith, ltb-false _ _ (sym (compared (c .before)) ∙ c .if2 .left), refl))
 
 pub nearer-spec : {M : Type 1} → statement M
 nearer-spec =

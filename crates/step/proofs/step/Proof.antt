@@ -4,19 +4,22 @@ use Prim.Native.Nat.{_+_}
 use native.Mathlib.Nat.{mod-lt}
 use native.Mathlib.Omega.{arith}
 use lib.ListN.{getD}
-use Rattle.relation.proofs.Step.{FirstRow}
+use Rattle.relation.specs.Moving.{FirstRow}
 use Rattle.relation.proofs.Existence.{pivot-le, entry-short}
 use Rattle.row.specs.View.{degreeAt}
-use Rattle.step.specs.Shift.{rowWeight}
+use Rattle.step.specs.Offset.{rowWeight}
 use Rattle.step.proofs.Next.{shape, next-same, next-moved, raised, kept}
 use borrow.Author.Needs.{needs}
 use Rattle.step.proofs.step.Statement.{statement}
 use Rattle.step.proofs.step.Tie as tie
 
--- the row that was found
+-- the entry, and the row that was found
+abbrev start : tie.After-known-told → tie.Start
+start c = c .before .before .before .before .before .before .before .before .before
+
 first : (c : tie.After-known-told)
-    → let start = c .before .before .before .before .before .before .before .before .before .args in
-    FirstRow (start .n) (λ l. getD (c .before .before .before .before .coefficients .result) l 0) (rowWeight (start .n) (start .d .now) (start .t5)) (c .before .i .given .0 .0)
+    → let args = start c .args in
+    FirstRow (args .n) (λ l. getD (c .before .before .before .before .coefficients .result) l 0) (rowWeight (args .n) (args .d .now) (args .t5)) (c .before .i .given .0 .0)
 first c = rw (c .before .i .given .1) at (c .before .before .before .least-row .ensures)
 
 add-width : tie.Need-add-width
@@ -26,7 +29,7 @@ coefficients-requires : tie.Need-coefficients-requires
 coefficients-requires c κs =
     let pre = c .before .before .before .before .pre in (
       (omega (arith, pre .0 .0 .above-one), omega arith, omega arith, omega arith, pre .0 .6, pre .0 .5),
-      (λ l h. pivot-le (pre .0 .0) (pre .1 .basis) l h, λ l h k hk t g. entry-short (pre .1) l k h hk t g),
+      λ l h k hk t g. entry-short (pre .1) l k h hk t g,
     )
 
 least-row-requires : tie.Need-least-row-requires
@@ -48,16 +51,18 @@ array-read-inverse c = omega (arith, first c .row<)
 
 inverse-requires : tie.Need-inverse-requires
 inverse-requires c κs =
-    let pre = c .before .before .before .before .before .before .before .before .before .pre in
-    (pre .0 .0, omega (arith, first c .nonzero), rw (c .before .before .before .before .coefficients .ensures _ (first c .row<)) (mod-lt _ (omega (arith, pre .0 .0 .above-one))))
+    let prime = start c .pre .0 .0 in
+    let coefficient = c .before .before .before .before .coefficients .ensures .0 _ (first c .row<) in
+    (prime, omega (arith, first c .nonzero), rw coefficient (mod-lt _ (omega (arith, prime .above-one))))
 
 sub-move-row : tie.Need-sub-move-row
 sub-move-row c = search needs
 
 move-row-requires : tie.Need-move-row-requires
 move-row-requires c κs =
-    let pre = c .before .before .before .before .before .before .before .before .before .before .before .pre in (
-      (omega (arith, pre .0 .0 .above-one), omega arith, first (c .before .before) .row<, omega arith, pre .0 .6),
+    let found = c .before .before in
+    let pre = start found .pre in (
+      (omega (arith, pre .0 .0 .above-one), omega arith, first found .row<, omega arith, pre .0 .6),
       (λ k h. omega (arith, pivot-le (pre .0 .0) (pre .1 .basis) k h), shape (pre .0 .0) (pre .1)),
     )
 
@@ -68,7 +73,10 @@ array-copy-out-top : tie.Need-array-copy-out-top
 array-copy-out-top c = omega (arith, first (c .before .before .before .before .before) .row<)
 
 add-t24 : tie.Need-add-t24
-add-t24 c = let pre = c .before .before .before .before .before .before .before .before .before .before .before .before .before .before .before .pre in omega (arith, pivot-le (pre .0 .0) (pre .1 .basis) _ (first (c .before .before .before .before .before .before) .row<))
+add-t24 c =
+    let found = c .before .before .before .before .before .before in
+    let pre = start found .pre in
+    omega (arith, pivot-le (pre .0 .0) (pre .1 .basis) _ (first found .row<))
 
 mul-next : tie.Need-mul-next
 mul-next c = omega (arith, first (c .before .before .before .before .before .before) .row<)
@@ -82,7 +90,7 @@ same-length c = search needs
 returns : tie.Need-returns
 returns c =
     let pre = c .before .before .before .before .before .before .before .before .pre in
-    (refl, next-same (pre .0 .0) (pre .1) _ (c .before .before .before .coefficients .ensures) (rw (c .enum-told .given .1) at (c .before .before .least-row .ensures)))
+    (refl, next-same (pre .0 .0) (pre .1) _ (c .before .before .before .coefficients .ensures .0) (rw (c .enum-told .given .1) at (c .before .before .least-row .ensures)), λ l h. refl)
 
 same-length-2 : tie.Need-same-length-2
 same-length-2 c = search needs
@@ -93,14 +101,15 @@ returns-2 c =
     let inverted = c .before .before .before .before .before in
     let found = inverted .before in
     let row = found .before .i .given .0 .0 in
-    let start = found .before .before .before .before .before .before .before .before .before in
-    let pre = start .pre in
-    let tops = start .args .t5 in
+    let entry = start found in
+    let pre = entry .pre in
+    let tops = entry .args .t5 in
     let inside = first found .row< in (
       moved .0,
-      next-moved (pre .0 .0) (pre .1) _ (found .before .before .before .before .coefficients .ensures) _ _ _ _ (first found) (inverted .inverse .ensures) (moved .1)
-          (raised tops _ _ (omega (arith, inside, start .good .1 .1 .1 .1 .0, pre .0 .1)) refl)
+      next-moved (pre .0 .0) (pre .1) _ (found .before .before .before .before .coefficients .ensures .0) _ _ _ _ (first found) (inverted .inverse .ensures) (moved .1)
+          (raised tops _ _ (omega (arith, inside, entry .good .1 .1 .1 .1 .0, pre .0 .1)) refl)
           (λ l h ne. kept tops _ l (record { 0 = degreeAt tops row + 1 }) ne),
+      λ l h. kept tops _ l (record { 0 = degreeAt tops row + 1 }) (omega (arith, inside)),
     )
 
 pub step-spec : {M : Type 1} → statement M

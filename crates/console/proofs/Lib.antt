@@ -1,0 +1,2 @@
+-- Laws about the text in its buffer.
+pub mod PrintedIn

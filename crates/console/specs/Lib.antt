@@ -1,0 +1,2 @@
+-- What the contracts of the programs' shared part cite.
+pub mod PrintedIn

@@ -1,0 +1,2 @@
+-- Laws about signed numbers.
+pub mod Signed

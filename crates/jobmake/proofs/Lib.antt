@@ -1,0 +1,3 @@
+-- Laws about what is made of a text.
+pub mod Admitted
+pub mod MadeOf

@@ -1,0 +1,2 @@
+-- What the contract of the made file cites.
+pub mod MadeOf

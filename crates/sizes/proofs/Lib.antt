@@ -1,0 +1,3 @@
+-- Laws about the sizes.
+pub mod Entry
+pub mod Passed
