@@ -7,7 +7,7 @@ use lib.ListN.{getD}
 use lib.IntN.{ℤ, pos, natAbs, _+ℤ_, _-ℤ_, +ℤ-negℤ-cancel}
 use Rattle.field.specs.Answer.{Answer}
 use Rattle.relation.specs.Sum.{sumTo}
-use Rattle.relation.specs.Sigma.{sumℤ, sigma}
+use Rattle.relation.specs.Sigma.{sumℤ, sigmaOf}
 use Rattle.sizes.specs.Entry.{typeOf}
 use Rattle.engine.specs.Sigma.{orderOf}
 use Rattle.engine.specs.Basis.{BasisAnswered}
@@ -27,8 +27,8 @@ unfolding sumTo
 at-least-one zero d h = absurd (omega arith)
 at-least-one (suc n) d h = omega arith
 
-words-sigma : (n : ℕ) (d : List ℕ) → 0 < n → pos (wordSum n d - 1) ≡ sigma n (typeOf d)
-unfolding sigma
+words-sigma : (n : ℕ) (d : List ℕ) → 0 < n → pos (wordSum n d - 1) ≡ sigmaOf n (typeOf d)
+unfolding sigmaOf
 words-sigma n d h =
     let S : ℕ = wordSum n d in
     let q : S - 1 + 1 ≡ S = omega (arith, at-least-one n d h) in
@@ -38,7 +38,7 @@ pub order-of-words : (n : ℕ) (d : List ℕ) → 0 < n → wordSum n d - 1 ≡ 
 unfolding orderOf
 order-of-words n d h = ap natAbs (words-sigma n d h)
 
-pub order-is-sigma : (n : ℕ) (d : List ℕ) → 0 < n → pos (orderOf n d) ≡ sigma n (typeOf d)
+pub order-is-sigma : (n : ℕ) (d : List ℕ) → 0 < n → pos (orderOf n d) ≡ sigmaOf n (typeOf d)
 order-is-sigma n d h = ap pos (sym (order-of-words n d h)) ∙ words-sigma n d h
 
 pub approximated-of : {p n : ℕ} {d F xs : List ℕ} {said : Answer} → 0 < n → BasisAnswered p n (orderOf n d) d F xs said → Approximated p n (orderOf n d) d F xs said

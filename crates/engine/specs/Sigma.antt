@@ -2,8 +2,8 @@
 use mathlib.Core.List.{List}
 use Prim.Native.Nat.{ℕ}
 use lib.IntN.{natAbs}
-use Rattle.relation.specs.Sigma.{sigma}
+use Rattle.relation.specs.Sigma.{sigmaOf}
 use Rattle.sizes.specs.Entry.{typeOf}
 
 unfoldable pub orderOf : ℕ → List ℕ → ℕ
-orderOf n d = natAbs (sigma n (typeOf d))
+orderOf n d = natAbs (sigmaOf n (typeOf d))

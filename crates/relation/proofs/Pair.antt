@@ -13,7 +13,7 @@ use Rattle.relation.specs.Product.{conv, dot}
 use Rattle.relation.specs.Vector.{Vect, IsVec}
 use Rattle.relation.specs.Degree.{DegreeBelow}
 use lib.Signed.{_≤ℤ_}
-use Rattle.relation.specs.Sigma.{sumℤ, sigma}
+use Rattle.relation.specs.Sigma.{sumℤ, sigmaOf}
 use Rattle.relation.specs.Pair.{pairSeries, pairType, Pair}
 use Rattle.relation.proofs.Sum.{sum-single, sum-all-zero}
 use Rattle.relation.proofs.Integer.{pos-le, minus-pos}
@@ -29,8 +29,8 @@ module _ (k N : ℕ) (one≤k : 1 ≤ k) (k≤N : k ≤ N) where
   unfolding pairType
   type-second = minus-pos N k k≤N
 
-  pub pair-order : pos N ≡ sigma 2 (pairType k N)
-  unfolding sigma sumℤ
+  pub pair-order : pos N ≡ sigmaOf 2 (pairType k N)
+  unfolding sigmaOf sumℤ
   pair-order = sym (rw (type-first, type-second) (minus-pos (0 + (k - 1 + 1) + (N - k + 1)) 1 (omega arith) ∙ ap pos (omega arith)))
 
   pub pair-exists : (p : ℕ) → Prime p → (g : ℕ → ℕ) → (r : ℕ → ℕ) × (t : ℕ → ℕ) × Pair p k N g r t

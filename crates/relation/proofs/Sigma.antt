@@ -8,7 +8,7 @@ use native.Mathlib.Omega.{arith}
 use lib.IntN.{ℤ, pos, _+ℤ_, +ℤ-assoc, +ℤ-comm, -ℤ-+ℤ-cancel}
 use Rattle.sizes.specs.Entry.{typeOf}
 use Rattle.relation.specs.Sum.{sumTo}
-use Rattle.relation.specs.Sigma.{sumℤ, sigma}
+use Rattle.relation.specs.Sigma.{sumℤ, sigmaOf}
 use Rattle.relation.proofs.Sum.{sum-add, sum-le}
 use Rattle.relation.proofs.Integer.{pos-inj, swap-last}
 use Rattle.relation.proofs.Shift.{Offset}
@@ -38,8 +38,8 @@ module _ {d : ℕ → ℤ} {B : ℕ} {b : ℕ → ℕ} where
       ∙ ap (λ (w : ℤ). w +ℤ pos (b n)) (swap-last x (d n +ℤ pos 1) (pos (sumTo n b)) ∙ ap (λ (w : ℤ). w +ℤ (d n +ℤ pos 1)) ih)
       ∙ +ℤ-assoc (pos (sumTo n (λ i. suc B))) (d n +ℤ pos 1) (pos (b n)) ∙ ap (λ (w : ℤ). pos (sumTo n (λ i. suc B)) +ℤ w) last
 
-  pub small-pivot : {n : ℕ} → Offset n d B b → (σ : ℕ) → pos σ ≡ sigma n d → (e : ℕ → ℕ) → sumTo n e ≤ σ → (l : ℕ) × (l < n) × (e l + b l ≤ B)
-  unfolding sigma
+  pub small-pivot : {n : ℕ} → Offset n d B b → (σ : ℕ) → pos σ ≡ sigmaOf n d → (e : ℕ → ℕ) → sumTo n e ≤ σ → (l : ℕ) × (l < n) × (e l + b l ≤ B)
+  unfolding sigmaOf
   small-pivot {n} o σ h e g = elim (some-or-none n (λ l. e l + b l) B) [
     | inl s ↦ s
     | inr z ↦
@@ -50,6 +50,6 @@ module _ {d : ℕ → ℤ} {B : ℕ} {b : ℕ → ℕ} where
   ]
 
 -- document 01's examples: (127, 127) has the order 255, (128, 127) the order 256
-pub sigma-worked : (sigma 2 (typeOf (127 ∷ 127 ∷ [])) ≡ pos 255) × (sigma 2 (typeOf (128 ∷ 127 ∷ [])) ≡ pos 256)
-unfolding sigma sumℤ
+pub sigma-worked : (sigmaOf 2 (typeOf (127 ∷ 127 ∷ [])) ≡ pos 255) × (sigmaOf 2 (typeOf (128 ∷ 127 ∷ [])) ≡ pos 256)
+unfolding sigmaOf sumℤ
 sigma-worked = (refl, refl)

@@ -22,7 +22,7 @@ use Rattle.relation.specs.LeadingZeros.{LeadingZeros}
 use Rattle.relation.specs.ShiftedDegree.{shift}
 use Rattle.relation.specs.MinimalBasis.{MinimalBasis}
 use Rattle.relation.specs.Reduced.{Reduced}
-use Rattle.relation.specs.Sigma.{sumℤ, sigma}
+use Rattle.relation.specs.Sigma.{sumℤ, sigmaOf}
 use Rattle.relation.specs.Approximant.{Approximant}
 use Rattle.relation.specs.Pair.{pairSeries, pairType, Pair}
 use Rattle.relation.specs.Starred.{listed, listedRows, StarredAnswer, Right, Case, basis, approximant, pair, inverse, Holds, AllHold, starred, c1, c1-answer}
@@ -196,10 +196,10 @@ module _ {p n : ℕ} {F : Vect} {s : ℕ} {d : ℕ → ℤ} {a : StarredAnswer} 
 abbrev answerTest : (p n : ℕ) (F : Vect) (s : ℕ) (d : ℕ → ℤ) (a : StarredAnswer) → Test (Right p n F s d a)
 answerTest p n F s d a = from (both (minimalTest p n F s d a) (restTest p n d s a)) (λ t. right (t .0) (t .1))
 
-approximant-by : {p n : ℕ} {F : Vect} {s : ℕ} {d : ℕ → ℤ} {a : StarredAnswer} → pos s ≡ sigma n d → (r : Right p n F s d a) → Approximant p n F d s (listedRows (a .rows)) (r .least .0)
+approximant-by : {p n : ℕ} {F : Vect} {s : ℕ} {d : ℕ → ℤ} {a : StarredAnswer} → pos s ≡ sigmaOf n d → (r : Right p n F s d a) → Approximant p n F d s (listedRows (a .rows)) (r .least .0)
 approximant-by q r = record { order = q; basis = r .basis; reduced = r .reduced; least = r .least .2 }
 
-pair-by : (p k : ℕ) (g r t : List ℕ) (a : StarredAnswer) → pos (length g) ≡ sigma 2 (pairType k (length g))
+pair-by : (p k : ℕ) (g r t : List ℕ) (a : StarredAnswer) → pos (length g) ≡ sigmaOf 2 (pairType k (length g))
     → Right p 2 (pairSeries p (poly g)) (length g) (pairType k (length g)) a
     → getD (getD (a .rows) (a .least - 1) []) 0 [] ≡ r → getD (getD (a .rows) (a .least - 1) []) 1 [] ≡ t
     → Prime p × Pair p k (length g) (poly g) (poly r) (poly t)
@@ -219,10 +219,10 @@ caseTest : (c : Case) → Test (Holds c)
 unfolding Holds
 caseTest (basis j a) = answerTest (j .p) (j .n) (listed (j .series)) (j .s) (typeOf (j .type)) a
 caseTest (approximant j a) = from
-    (both (equalℤ (pos (j .s)) (sigma (j .n) (typeOf (j .type)))) (answerTest (j .p) (j .n) (listed (j .series)) (j .s) (typeOf (j .type)) a))
+    (both (equalℤ (pos (j .s)) (sigmaOf (j .n) (typeOf (j .type)))) (answerTest (j .p) (j .n) (listed (j .series)) (j .s) (typeOf (j .type)) a))
     (λ t. (t .1, approximant-by (t .0) (t .1)))
 caseTest (pair p k g r t a) = from
-    (both (equalℤ (pos (length g)) (sigma 2 (pairType k (length g))))
+    (both (equalℤ (pos (length g)) (sigmaOf 2 (pairType k (length g))))
     (both (answerTest p 2 (pairSeries p (poly g)) (length g) (pairType k (length g)) a)
     (both (equalList (getD (getD (a .rows) (a .least - 1) []) 0 []) r) (equalList (getD (getD (a .rows) (a .least - 1) []) 1 []) t))))
     (λ u. pair-by p k g r t a (u .0) (u .1 .0) (u .1 .1 .0) (u .1 .1 .1))
@@ -236,7 +236,7 @@ tableTest (c ∷ cs) = both (caseTest c) (tableTest cs)
 
 -- every starred case holds
 pub starred-hold : AllHold starred
-unfolding tableTest caseTest poly sumTo conv dot weight less base offsets sumℤ sigma pairSeries pairType
+unfolding tableTest caseTest poly sumTo conv dot weight less base offsets sumℤ sigmaOf pairSeries pairType
 starred-hold = tableTest starred .shows tt
 
 -- a buffer lent with zeros holds no basis, whatever the job

@@ -28,7 +28,7 @@ use Rattle.relation.specs.Pivot.{Pivot}
 use Rattle.relation.specs.Reduced.{Reduced}
 use Rattle.relation.specs.LeadingZeros.{LeadingZeros}
 use Rattle.relation.specs.Shrink.{ShrinkCount}
-use Rattle.relation.specs.Sigma.{sigma}
+use Rattle.relation.specs.Sigma.{sigmaOf}
 use Rattle.relation.specs.Approximant.{LeastRow, Approximant}
 use Rattle.relation.specs.Combination.{Combination}
 use Rattle.relation.specs.SameRelations.{SameRelations}
@@ -244,7 +244,7 @@ module _ {p n : ℕ} {F : Vect} {d : ℕ → ℤ} {σ : ℕ} {Q : ℕ → Vect} 
       le-trans (x .least .δ) (shift d (t .0) (w .0 (t .0))) ε (x .least .least (t .0) _ ht row)
       (x .basis .least (t .0) ht P r nz (t .1) _ ε row dP)
 
-pub approximant-exists : (p n : ℕ) (F : Vect) (d : ℕ → ℤ) (σ : ℕ) → Prime p → 0 < n → pos σ ≡ sigma n d → (Q : ℕ → Vect) × (i : ℕ) × Approximant p n F d σ Q i
+pub approximant-exists : (p n : ℕ) (F : Vect) (d : ℕ → ℤ) (σ : ℕ) → Prime p → 0 < n → pos σ ≡ sigmaOf n d → (Q : ℕ → Vect) × (i : ℕ) × Approximant p n F d σ Q i
 approximant-exists p n F d σ pr hn order =
     let Q = reduced-basis-exists p n F σ d pr in
     let i = least-exists hn (Q .1) in

@@ -7,5 +7,5 @@ unfoldable pub sumℤ : ℕ → (ℕ → ℤ) → ℤ
 sumℤ zero f = pos 0
 sumℤ (suc k) f = sumℤ k f +ℤ f k
 
-unfoldable pub sigma : ℕ → (ℕ → ℤ) → ℤ
-sigma n d = sumℤ n (λ i. d i +ℤ pos 1) -ℤ pos 1
+unfoldable pub sigmaOf : ℕ → (ℕ → ℤ) → ℤ
+sigmaOf n d = sumℤ n (λ i. d i +ℤ pos 1) -ℤ pos 1
