@@ -5,6 +5,7 @@ import subprocess
 import sys
 
 sys.path.insert(0, os.path.join(os.path.dirname(os.path.abspath(__file__)), '..', 'tools'))
+import calls
 import expected
 import reference
 
@@ -13,11 +14,11 @@ PRIMES = [2, 3, 5, 7, 11, 101, 257, 46337, 65537, 1000003, 2147483629, reference
 
 def drawn(count):
     """Mostly small jobs, and some to order 255."""
-    x = expected.start(0)
+    x = calls.start(0)
     for at in range(count):
         numbers = []
         for _ in range(6):
-            x = expected.step(x)
+            x = calls.step(x)
             numbers.append(x // 65536)
         p, n = PRIMES[numbers[0] % len(PRIMES)], 1 + numbers[1] % 8
         s = numbers[2] % (256 if at % 16 == 0 else 40)

@@ -10,9 +10,11 @@ refusals, and share no method with it. docs/REFERENCE.md says how and why.
 """
 import functools
 import itertools
+import re
 import sys
 
 LARGEST = 2147483647
+TEXT = 180809  # bytes that the text calls are lent
 
 
 class Refused(Exception):
@@ -206,6 +208,11 @@ def block(number, payload):
     return bytes_of(words + list(checks(words)))
 
 
+def block_checks(data):
+    """The checks that belong to the 512 bytes of a block."""
+    return checks(words_of(data)[:126])
+
+
 def blocks_of(n, s):
     return -(-(3 + n + n * s) // 125)
 
@@ -257,20 +264,30 @@ def read_job(data, type_, series):
 
 # ---- The text ------------------------------------------------------------------------------
 
+def degree(words):
+    """The place of the last word that is not zero; 0 where there is none."""
+    return max((t for t, a in enumerate(words) if a), default=0)
+
+
 def entry_text(words):
     """Coefficients, low first, without high zeros; '0' for the zero polynomial."""
-    top = max((t for t, a in enumerate(words) if a), default=0)
-    return ' '.join(map(str, words[:top + 1]))
+    return ' '.join(map(str, words[:degree(words) + 1]))
 
 
-def basis_text(p, n, s, type_, series):
-    rows, pivots = reduced_rows(p, n, s, type_, [series[i * s:(i + 1) * s] for i in range(n)])
+def basis_text(p, n, s, type_, words, least):
+    """What the words of a basis say, whatever they are."""
     lines = [f'relations {p} {n} {s} type {" ".join(map(str, type_))}']
-    for i, row in enumerate(rows):
-        entries = ' | '.join(map(entry_text, row))
-        lines.append(f'row {i + 1} {pivots[i]} {pivots[i] - type_[i]} | {entries}')
-    lines.append(f'least {least_row(pivots, type_)}')
+    entries = [words[at:at + s + 1] for at in range(0, len(words), s + 1)]
+    for i in range(n):
+        row = entries[i * n:(i + 1) * n]
+        pivot = degree(row[i])
+        lines.append(f'row {i + 1} {pivot} {pivot - type_[i]} | {" | ".join(map(entry_text, row))}')
+    lines.append(f'least {least}')
     return ''.join(line + '\n' for line in lines)
+
+
+def refusal_text(number):
+    return f'refused {number}\n'
 
 
 def relations(data):
@@ -279,15 +296,133 @@ def relations(data):
     try:
         p, n, s = read_job(data, type_, series)
     except Refused as refusal:
-        return f'refused {refusal.number}\n'
-    return basis_text(p, n, s, type_[:n], series[:n * s])
+        return refusal_text(refusal.number)
+    words = [0] * (n * n * (s + 1))
+    least, _ = basis(p, n, s, type_[:n], series[:n * s], words)
+    return basis_text(p, n, s, type_[:n], words, least)
+
+
+def put_text(text, out):
+    """Writes the text to the start of out; answers its length."""
+    out[:len(text)] = text.encode()
+    return len(text)
+
+
+def write_basis(p, n, s, type_, words, least, out):
+    refuse(2, not 1 <= n <= 8)
+    refuse(3, s > 255)
+    refuse(4, len(type_) != n or len(words) != n * n * (s + 1) or len(out) != TEXT)
+    return put_text(basis_text(p, n, s, type_, words, least), out)
+
+
+def write_refusal(number, out):
+    refuse(4, len(out) != TEXT)
+    return put_text(refusal_text(number), out)
+
+
+def print_job(data, out):
+    refuse(4, len(out) != TEXT)
+    return put_text(relations(data), out)
+
+
+# ---- The text job ----------------------------------------------------------------------------
+
+NOT_NUMBER, TOO_LARGE, ENDS_EARLY, TOO_MANY = 257, 258, 259, 260
+
+
+class Slip(Refused):
+    """What is wrong with a text job: its number, and its line."""
+
+    def __init__(self, number, line):
+        super().__init__(number)
+        self.line = line
+
+
+def lines_of(text):
+    return bytes(text).decode('latin-1').split('\n')
+
+
+def words_in(line):
+    """What stands between blanks, before the comment. Python's own split knows more blanks."""
+    return re.findall('[^ \t\r]+', line.partition('#')[0])
+
+
+def is_number(word):
+    return re.fullmatch('[0-9]+', word) is not None
+
+
+def value_of(digits):
+    """The number, and 2^32 for every larger one: Python reads no number of thousands of digits."""
+    return min(int(digits.lstrip('0')[:11] or '0'), 2 ** 32)
+
+
+def size_of_job(numbers):
+    """How many numbers the job that begins with these has; no job has fewer than 4."""
+    return 3 + numbers[1] * (1 + numbers[2]) if len(numbers) >= 3 else 4
+
+
+def test_value(numbers, value):
+    """Document 01's refusal of the value that follows these numbers of a job."""
+    at = len(numbers)
+    if at == 0:
+        test_modulus(value)
+    elif at == 1:
+        refuse(2, not 1 <= value <= 8)
+    elif at == 2:
+        refuse(3, value > 255)
+    elif at < 3 + numbers[1]:
+        refuse(5, value > 255)
+    else:
+        test_coefficients(numbers[0], [value])
+
+
+def next_number(numbers, word):
+    """The word as the number that follows these."""
+    refuse(TOO_MANY, len(numbers) == size_of_job(numbers))
+    refuse(NOT_NUMBER, not is_number(word))
+    value = value_of(word)
+    refuse(TOO_LARGE, value >= 2 ** 32)
+    test_value(numbers, value)
+    return value
+
+
+def text_numbers(text):
+    """All numbers of a text job. Raises the slip of the first word that is wrong."""
+    numbers = []
+    lines = lines_of(text)
+    for at, line in enumerate(lines):
+        for word in words_in(line):
+            try:
+                numbers.append(next_number(numbers, word))
+            except Refused as refusal:
+                raise Slip(refusal.number, at + 1)
+    if len(numbers) < size_of_job(numbers):
+        raise Slip(ENDS_EARLY, len(lines))
+    return numbers
+
+
+def parse(text, type_, series):
+    """Writes the first n words of type_ and n * s of series; answers p, n and s."""
+    assert (len(type_), len(series)) == (8, 2040)  # the call takes no other lengths
+    p, n, s, *rest = text_numbers(text)
+    type_[:n] = rest[:n]
+    series[:n * s] = rest[n:]
+    return p, n, s
+
+
+def parse_line(text):
+    """The line of what is wrong with a text job; 0 where nothing is."""
+    try:
+        text_numbers(text)
+    except Slip as slip:
+        return slip.line
+    return 0
 
 
 def text_job(text):
-    """p, n, s, type and series of a plain text job."""
-    numbers = [int(word) for line in text.splitlines() for word in line.split('#')[0].split()]
-    p, n, s = numbers[:3]
-    return p, n, s, numbers[3:3 + n], numbers[3 + n:]
+    """p, n, s, type and series of a text job."""
+    p, n, s, *rest = text_numbers(text)
+    return p, n, s, rest[:n], rest[n:]
 
 
 # ---- Self test -------------------------------------------------------------------------------
@@ -368,6 +503,50 @@ def is_relation(p, s, f, vector):
                for j in range(s))
 
 
+def test_texts(check):
+    """The text calls on a buffer that is lent full of 170."""
+    def called(call, *arguments, lent=TEXT):
+        """The text that the call put at the start of the buffer, or its refusal; past the text nothing may change."""
+        out = [170] * lent
+        said = outcome(call, *arguments, out)
+        length = 0 if isinstance(said, str) else said
+        assert set(out[length:]) <= {170}
+        return bytes(out[:length]).decode() or said
+
+    rows = flat(2, 3, ['6 1, 6 2', '6, 6 1 1'])
+    check('text of C1 written', called(write_basis, 7, 2, 3, [0, 2], rows, 2), C1_TEXT)
+    check('C1 printed', called(print_job, layout(7, 2, 3, [0, 2], [6, 0, 0, 1, 1, 2])), C1_TEXT)
+    check('empty file printed', called(print_job, b''), 'refused 8\n')
+    check('text of a refusal', called(write_refusal, 12), 'refused 12\n')
+    check('words that are no basis', called(write_basis, 9, 1, 1, [300], [0, 0], 7), 'relations 9 1 1 type 300\nrow 1 0 -300 | 0\nleast 7\n')
+    top = 4294967295
+    longest = called(write_basis, top, 8, 255, [top] * 8, [top] * 16384, top)
+    check('longest text', longest.count(str(top)), 1 + 8 + 8 * 8 * 256 + 1)  # the shifted degrees are smaller
+    for n, s, types, words, lent, number in [(0, 256, 1, 1, 1, 2), (9, 256, 1, 1, 1, 2), (1, 256, 1, 257, 1, 3), (1, 0, 2, 1, TEXT, 4),
+                                             (1, 0, 1, 2, TEXT, 4), (1, 0, 1, 1, TEXT - 1, 4), (1, 0, 1, 1, TEXT + 1, 4)]:
+        check('text refused', called(write_basis, 7, n, s, [0] * types, [1] * words, 1, lent=lent), f'refused {number}')
+    check('text of a refusal refused', called(write_refusal, 8, lent=TEXT - 1), 'refused 4')
+    check('print refused', called(print_job, b'', lent=TEXT + 1), 'refused 4')
+
+
+SLIPS = [  # a text, the number of what is wrong, the line
+    ('', ENDS_EARLY, 1), ('7 2\n3\n', ENDS_EARLY, 3), ('7 2 3 # 0 2\n0 2 6', ENDS_EARLY, 2), ('7 1 0 0 x', TOO_MANY, 1), ('7 1 0\n0\n0', TOO_MANY, 3),
+    ('x', NOT_NUMBER, 1), ('7\n\n-2', NOT_NUMBER, 3), ('7 2\x0b3', NOT_NUMBER, 1), ('4294967296x', NOT_NUMBER, 1), ('7 4294967296', TOO_LARGE, 1),
+    ('7 1 0 ' + '9' * 5000, TOO_LARGE, 1), ('4294967295', 1, 1), ('\n4', 1, 2), ('7\n9', 2, 2), ('7 0', 2, 1), ('7 1\r\n\t256', 3, 2), ('7 1 2 256', 5, 1),
+    ('7 1 2 255\n6\n7', 6, 3), ('7 1 0 ' + '0' * 5000 + '#', 0, 0),
+]
+
+
+def test_text_jobs(check):
+    type_, series = [5] * 8, [5] * 2040
+    c1 = b'# C1\n7 2 3# p, n, s\n\t0 2\r\n6 0 0\n1 1 02'
+    check('text job', (parse(c1, type_, series), type_[:3], series[:7]), ((7, 2, 3), [0, 2, 5], [6, 0, 0, 1, 1, 2, 5]))
+    check('line of a text job', parse_line(c1), 0)
+    for text, number, line in SLIPS:
+        said = outcome(parse, text.encode(), [5] * 8, [5] * 2040)
+        check(f'slip of {text[:40]!r}', (said, parse_line(text.encode())), (f'refused {number}' if number else (7, 1, 0), line))
+
+
 def test_brute_force(check):
     """Definitions over every vector of small degree: the rows are relations of the right type,
     reduced, no smaller member of their type exists, and the count is found order by order."""
@@ -423,6 +602,8 @@ def selftest():
 
     test_worked(check)
     test_files(check)
+    test_texts(check)
+    test_text_jobs(check)
     test_brute_force(check)
     print(f'{passed} passed, {failed} failed')
     return failed != 0
@@ -435,14 +616,12 @@ def main(arguments):
         sys.stdout.write(relations(sys.stdin.buffer.read()))
         return 0
     if arguments == ['job']:
-        p, n, s, type_, series = text_job(sys.stdin.read())
-        out = bytearray(8704)
         try:
-            count = write_job(p, n, s, type_, series, out)
-        except Refused as refusal:
-            print(f'refused {refusal.number}', file=sys.stderr)
+            job = text_job(sys.stdin.buffer.read())
+        except Slip as slip:
+            print(f'line {slip.line}: refused {slip.number}', file=sys.stderr)
             return 1
-        sys.stdout.buffer.write(out[:512 * count])
+        sys.stdout.buffer.write(layout(*job))
         return 0
     print(__doc__, file=sys.stderr)
     return 2

@@ -14,7 +14,7 @@ use Rattle.block.specs.Block.{upTo, blockOf}
 use Rattle.block.specs.Read.{numberOf, Sound}
 use Rattle.block.specs.File.{blocksOf, blocksFor, fileOf}
 use Rattle.block.specs.Part.{blockAt, payloadAt}
-use Rattle.block.specs.Lent.{over}
+use Rattle.words.specs.Lent.{over}
 use Rattle.block.proofs.Table.{length-upTo, getD-upTo}
 use Rattle.block.proofs.Words.{word-take, word-drop}
 use Rattle.words.proofs.Within.{within-take, within-drop}

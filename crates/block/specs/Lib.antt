@@ -8,7 +8,6 @@ pub mod Block
 pub mod Read
 pub mod File
 pub mod Part
-pub mod Lent
 pub mod Length
 pub mod Fault
 pub mod Count

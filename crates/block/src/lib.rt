@@ -10,17 +10,18 @@ ghost use Prim.Native.Nat.{_+_, _*_, _/_, _≤_};
 ghost use lib.ListN.{length, getD};
 ghost use Rattle.block.specs.Word.{wordAt};
 ghost use Rattle.block.specs.Store.{stored};
-ghost use Rattle.block.specs.Checks.{checksOf};
+ghost use Rattle.block.specs.Checks.{summed, checksOf};
 ghost use Rattle.block.specs.Block.{blockOf};
 ghost use Rattle.block.specs.Read.{numberOf, Sound};
 ghost use Rattle.block.specs.Seal.{sealed};
 ghost use Rattle.block.specs.File.{blocksOf, blocksFor, fileOf};
 ghost use Rattle.block.specs.Part.{blocksIn, payloadAt, payloadPart};
-ghost use Rattle.block.specs.Lent.{over};
+ghost use Rattle.words.specs.Lent.{over};
 ghost use Rattle.block.specs.Length.{BadLength};
 ghost use Rattle.block.specs.Fault.{faults};
 ghost use Rattle.block.specs.Count.{countTests};
 ghost use Rattle.field.specs.Calls.{Tests};
+ghost use Rattle.words.specs.Polynomial.{poly};
 ghost use Rattle.words.specs.Some.{Some};
 use field::Tested;
 
@@ -38,7 +39,7 @@ fn wide(byte: u8) -> u32
 }
 
 // Word i of bytes.
-pub fn word_at(bytes: &[u8], i: usize) -> u32
+fn word_at(bytes: &[u8], i: usize) -> u32
     requires { ⌜ 4 * i + 4 ≤ length (now bytes) ⌝ }
     ensures { λ r. ⌜ r ≡ wordAt (now (bytes .entry)) i ⌝ }
 {
@@ -51,7 +52,7 @@ pub fn word_at(bytes: &[u8], i: usize) -> u32
 }
 
 // Makes w word i of bytes.
-pub fn store_word(bytes: &mut [u8], i: usize, w: u32)
+fn store_word(bytes: &mut [u8], i: usize, w: u32)
     requires { ⌜ 4 * i + 4 ≤ length (now bytes) ⌝ }
     ensures { λ _. ⌜ now (bytes .exit) ≡ stored (now (bytes .entry)) i w ⌝ }
 {
@@ -79,8 +80,23 @@ pub fn checks_of(block: &[u8]) -> Checks
     Checks { a, b }
 }
 
+// The checks of any words, which sum them as those of a block do.
+pub fn sums_of(words: &[u32]) -> Checks
+    ensures { λ r. ⌜ r ≡ summed (poly (now (words .entry))) (length (now (words .entry))) ⌝ }
+{
+    let mut sum: u32 = 1;
+    let mut sums: u32 = 0;
+    let mut i = 0;
+    while i < words.len() {
+        sum = std::num::wrapping_add_u32(sum, words[i]);
+        sums = std::num::wrapping_add_u32(sums, sum);
+        i += 1;
+    }
+    Checks { a: sum, b: sums }
+}
+
 // Writes a block's checks over what its words 126 and 127 were.
-pub fn seal(block: &mut [u8])
+fn seal(block: &mut [u8])
     requires { ⌜ length (now block) ≡ 512 ⌝ }
     ensures { λ _. ⌜ now (block .exit) ≡ sealed (now (block .entry)) ⌝ }
 {
@@ -90,7 +106,7 @@ pub fn seal(block: &mut [u8])
 }
 
 // Whether a block has this number.
-pub fn is_numbered(block: &[u8], number: u32) -> bool
+fn is_numbered(block: &[u8], number: u32) -> bool
     requires { ⌜ length (now block) ≡ 512 ⌝ }
     ensures { λ r. ⌜ (r ≡ true) ↔ (numberOf (now (block .entry)) ≡ number) ⌝ }
 {
@@ -98,7 +114,7 @@ pub fn is_numbered(block: &[u8], number: u32) -> bool
 }
 
 // Whether a block's checks are right.
-pub fn is_sound(block: &[u8]) -> bool
+fn is_sound(block: &[u8]) -> bool
     requires { ⌜ length (now block) ≡ 512 ⌝ }
     ensures { λ r. ⌜ (r ≡ true) ↔ Sound (now (block .entry)) ⌝ }
 {
@@ -115,14 +131,14 @@ pub fn is_sound(block: &[u8]) -> bool
 }
 
 // Word i of words, zero past their end.
-pub fn word_or_zero(words: &[u32], i: usize) -> u32
+fn word_or_zero(words: &[u32], i: usize) -> u32
     ensures { λ r. ⌜ r ≡ getD (now (words .entry)) i 0 ⌝ }
 {
     if i < words.len() { words[i] } else { 0 }
 }
 
 // Writes a whole block. Its payload is the first 125 of the words, zero past their end.
-pub fn write_block(block: &mut [u8], number: u32, words: &[u32])
+fn write_block(block: &mut [u8], number: u32, words: &[u32])
     requires { ⌜ length (now block) ≡ 512 ⌝ }
     ensures { λ _. ⌜ now (block .exit) ≡ blockOf number (now (words .entry)) ⌝ }
 {

@@ -16,8 +16,8 @@ use Rattle.field.proofs.Refusal.{same-outcome, none-both, answer}
 use Rattle.sizes.specs.declared.JobSizes.{JobSizes}
 use Rattle.block.specs.File.{blocksFor}
 use Rattle.block.specs.Part.{blocksIn}
-use Rattle.block.specs.Lent.{over}
-use Rattle.block.proofs.Over.{first-over}
+use Rattle.words.specs.Lent.{over}
+use Rattle.words.proofs.Over.{first-over}
 use Rattle.jobfile.specs.Lengths.{typeWords, seriesWords, fileBytes}
 use Rattle.jobfile.specs.Job.{Job, Admitted, jobOf}
 use Rattle.jobfile.specs.Layout.{wordsOf, layout}

@@ -6,7 +6,7 @@ use lib.ListN.{length}
 use Rattle.field.specs.Refusal.{Outcome}
 use Rattle.field.specs.Answer.{Answer, result, refusal}
 use Rattle.block.specs.File.{blocksFor}
-use Rattle.block.specs.Lent.{over}
+use Rattle.words.specs.Lent.{over}
 use Rattle.jobfile.specs.Job.{Job, Admitted, jobOf}
 use Rattle.jobfile.specs.Layout.{wordsOf, layout}
 use Rattle.jobfile.specs.Orders.{readerOrder, writerOrder}

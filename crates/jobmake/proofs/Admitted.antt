@@ -10,10 +10,10 @@ use borrow.Author.Tests.{ltb-true}
 use Rattle.field.specs.Modulus.{Modulus}
 use Rattle.field.proofs.ModulusTest.{modulus-test}
 use Rattle.jobfile.specs.Job.{Admitted, jobOf}
-use Rattle.jobtext.specs.declared.Numeral.{Numeral}
+use Rattle.tokens.specs.declared.Numeral.{Numeral}
 use Rattle.jobtext.specs.declared.Slip.{Slip}
-use Rattle.jobtext.specs.Tokens.{Tokens, textEnd, word}
-use Rattle.jobtext.specs.Number.{numeralOf}
+use Rattle.tokens.specs.Tokens.{Tokens, textEnd, word}
+use Rattle.tokens.specs.Number.{numeralOf}
 use Rattle.field.specs.ModulusTest.{isModulus}
 use Rattle.sizes.specs.Entry.{isEntry}
 use Rattle.sizes.proofs.Entry.{entry-test}

@@ -9,7 +9,7 @@ use Rattle.field.specs.Answer.{Answer, result, refusal}
 use Rattle.block.specs.File.{blocksFor}
 use Rattle.jobfile.specs.Job.{Job, Admitted, jobOf}
 use Rattle.jobfile.specs.Layout.{wordsOf, layout}
-use Rattle.block.specs.Lent.{over}
+use Rattle.words.specs.Lent.{over}
 use Rattle.jobfile.proofs.LaidOut.{length-words, length-layout}
 use Rattle.sizes.specs.declared.JobSizes.{JobSizes}
 use Rattle.jobtext.specs.declared.Slip.{Slip}

@@ -6,7 +6,7 @@ use Prim.Native.Nat.{ℕ}
 use lib.ListN.{length}
 use Rattle.jobfile.specs.Job.{jobOf}
 use Rattle.jobfile.specs.Layout.{layout}
-use Rattle.block.specs.Lent.{over}
+use Rattle.words.specs.Lent.{over}
 use Rattle.jobtext.specs.Job.{JobText, job, wrong}
 use Rattle.jobtext.specs.Message.{message}
 use Rattle.jobmake.specs.declared.Made.{Made}

@@ -3,7 +3,7 @@ ghost use mathlib.Core.Path.{_≡_};
 ghost use lib.ListN.{length};
 ghost use Rattle.jobfile.specs.Job.{Admitted, jobOf};
 ghost use Rattle.jobfile.specs.Layout.{layout};
-ghost use Rattle.block.specs.Lent.{over};
+ghost use Rattle.words.specs.Lent.{over};
 ghost use Rattle.jobtext.specs.Job.{jobOfText};
 ghost use Rattle.jobmake.specs.MadeOf.{MadeOf};
 use jobfile::FILE_BYTES;

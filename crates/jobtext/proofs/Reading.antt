@@ -6,18 +6,20 @@ use Prim.Native.Nat.{ℕ, suc, _+_, _-_, _≤_, _<_}
 use native.Mathlib.Numerals.{add-one}
 use native.Mathlib.Omega.{arith}
 use borrow.Author.Tests.{lt-ltb, le-ltb, le-leb, lt-leb}
-use lib.ListN.{length, take, drop, set, replicate, length-set, length-append, length-replicate}
+use lib.ListN.{length, take, set, replicate, length-set, length-append, length-replicate}
 use lib.Seq.{append-snoc, take-suc-set, take-all, take-at, length-take-le}
 use Rattle.sizes.proofs.Entry.{entry-test}
-use Rattle.jobtext.specs.declared.Numeral.{Numeral}
+use Rattle.tokens.specs.declared.Numeral.{Numeral}
 use Rattle.jobtext.specs.declared.Slip.{Slip}
 use Rattle.jobtext.specs.declared.Next.{Next}
 use Rattle.jobtext.specs.declared.Reached.{Reached}
 use Rattle.jobtext.specs.declared.Parsed.{Parsed}
-use Rattle.jobtext.specs.Tokens.{Tokens, textEnd, word, rest}
-use Rattle.jobtext.specs.Number.{numeralOf}
+use Rattle.tokens.specs.Tokens.{Tokens, textEnd, word, rest}
+use Rattle.tokens.specs.Taking.{Position}
+use Rattle.tokens.specs.Number.{numeralOf}
+use Rattle.words.specs.Lent.{over}
 use Rattle.jobtext.specs.Job.{JobText, job, wrong, tested, oneNumber, manyNumbers, atEnd, isCount, isBelow, fromType, fromSeries}
-use Rattle.jobtext.specs.Reading.{Position, Takes, Fills, Follows}
+use Rattle.jobtext.specs.Reading.{Takes, Fills, Follows}
 
 module _ (ok : ℕ → Bool) (slip : Slip) (go : ℕ → Tokens → JobText) where
   pub one-none : (l : ℕ) (t : Tokens) → t ≡ textEnd l → oneNumber ok slip go t ≡ wrong Slip.EndsEarly l
@@ -116,7 +118,7 @@ pub follows-wrong : {j : JobText} (e : Slip) (l : ℕ) (a c : List ℕ) → j �
 unfolding Follows
 follows-wrong e l a c q = follows-same (Parsed.Wrong e l) a a c c q (refl, refl, refl)
 
-pub follows-job : {j : JobText} (p n s : ℕ) (x f a b c d : List ℕ) → j ≡ job p n s x f → b ≡ x ++ drop (length x) a → d ≡ f ++ drop (length f) c
+pub follows-job : {j : JobText} (p n s : ℕ) (x f a b c d : List ℕ) → j ≡ job p n s x f → b ≡ over x a → d ≡ over f c
     → Follows j (Parsed.Job (record { p = p; n = n; s = s })) a b c d
 unfolding Follows
 follows-job p n s x f a b c d q g h = follows-same (Parsed.Job (record { p = p; n = n; s = s })) a b c d q (refl, g, h)

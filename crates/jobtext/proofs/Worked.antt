@@ -5,8 +5,8 @@ use Prim.Native.Nat.{ℕ}
 use Rattle.field.specs.ModulusTest.{noneDivides, isModulus}
 use Rattle.sizes.specs.Entry.{isEntry}
 use Rattle.jobtext.specs.declared.Slip.{Slip}
-use Rattle.jobtext.specs.Tokens.{textEnd, word, classOf, scan, tokens}
-use Rattle.jobtext.specs.Number.{numeralFrom, numeralOf}
+use Rattle.tokens.specs.Tokens.{textEnd, word, classOf, scan, tokens}
+use Rattle.tokens.specs.Number.{numeralFrom, numeralOf}
 use Rattle.jobtext.specs.Job.{job, wrong, tested, oneNumber, manyNumbers, atEnd, isCount, isBelow, fromSeries, fromType, fromOrder, fromCount, jobOfText}
 
 -- "# C1", "7 2 3", "0 2 # type", "6 0 0 1 1 2", each with its end of line

@@ -5,10 +5,10 @@ use Prim.Native.Nat.{ℕ, zero, suc, _*_}
 use lib.Dec.{ltb, leb}
 use Rattle.field.specs.ModulusTest.{isModulus}
 use Rattle.sizes.specs.Entry.{isEntry}
-use Rattle.jobtext.specs.declared.Numeral.{Numeral}
+use Rattle.tokens.specs.declared.Numeral.{Numeral}
 use Rattle.jobtext.specs.declared.Slip.{Slip}
-use Rattle.jobtext.specs.Tokens.{Tokens, textEnd, word, tokens}
-use Rattle.jobtext.specs.Number.{numeralOf}
+use Rattle.tokens.specs.Tokens.{Tokens, textEnd, word, tokens}
+use Rattle.tokens.specs.Number.{numeralOf}
 
 pub data JobText : Type 0 where
   job : ℕ → ℕ → ℕ → List ℕ → List ℕ → JobText

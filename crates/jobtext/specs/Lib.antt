@@ -1,6 +1,4 @@
 -- What the contracts of the text job cite.
-pub mod Tokens
-pub mod Number
 pub mod Job
 pub mod Reading
 pub mod Message

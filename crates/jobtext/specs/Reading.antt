@@ -1,20 +1,17 @@
 -- Reading: what each part of the parser answers, as a step of the definition: how the definition goes on from where the part stopped.
 use mathlib.Core.Path.{_≡_}
 use mathlib.Core.Bool.{Bool}
-use mathlib.Core.List.{List, _++_}
-use Prim.Native.Nat.{ℕ, _+_, _≤_}
-use lib.ListN.{length, drop}
+use mathlib.Core.List.{List}
+use Prim.Native.Nat.{ℕ}
+use lib.ListN.{length}
 use Rattle.jobtext.specs.declared.Slip.{Slip}
 use Rattle.jobtext.specs.declared.Next.{Next}
 use Rattle.jobtext.specs.declared.Reached.{Reached}
 use Rattle.jobtext.specs.declared.Parsed.{Parsed}
-use Rattle.jobtext.specs.Tokens.{Tokens, rest}
+use Rattle.tokens.specs.Tokens.{Tokens, rest}
+use Rattle.tokens.specs.Taking.{Position}
+use Rattle.words.specs.Lent.{over}
 use Rattle.jobtext.specs.Job.{JobText, job, wrong, tested, oneNumber, manyNumbers}
-
--- a position in a text, between words: the line is at most one more than the bytes passed
-pub record Position (text : List ℕ) (at line : ℕ) : Type 0 where
-  pub inside : at ≤ length text
-  pub lines : line ≤ at + 1
 
 -- one number is taken
 unfoldable pub Takes : List ℕ → Tokens → Next → Type 0
@@ -31,5 +28,5 @@ Fills text t ok slip values (Reached.Wrong e l) = (go : List ℕ → Tokens → 
 -- what the parser answers and leaves in the lent buffers, for the job of the text
 unfoldable pub Follows : JobText → Parsed → List ℕ → List ℕ → List ℕ → List ℕ → Type 0
 Follows (job p n s d f) r types types′ series series′ =
-    (r ≡ Parsed.Job (record { p = p; n = n; s = s })) × (types′ ≡ d ++ drop (length d) types) × (series′ ≡ f ++ drop (length f) series)
+    (r ≡ Parsed.Job (record { p = p; n = n; s = s })) × (types′ ≡ over d types) × (series′ ≡ over f series)
 Follows (wrong e l) r types types′ series series′ = (r ≡ Parsed.Wrong e l) × (types′ ≡ types) × (series′ ≡ series)

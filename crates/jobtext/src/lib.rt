@@ -3,31 +3,18 @@ use field::Field;
 use report::put;
 use report::put_number;
 use sizes::JobSizes;
+use tokens::Numeral;
+use tokens::Taken;
 ghost use mathlib.Core.Path.{_≡_};
-ghost use mathlib.Core.List.{[], _++_};
-ghost use Prim.Native.Nat.{ℕ, _+_, _*_, _-_, _^_, _<_, _≤_};
-ghost use lib.ListN.{length, getD, take, drop};
+ghost use mathlib.Core.List.{_++_};
+ghost use Prim.Native.Nat.{_≤_};
+ghost use lib.ListN.{length, drop};
 ghost use Rattle.report.specs.Wrote.{Room, Wrote};
-ghost use Rattle.jobtext.specs.Tokens.{classOf, scan, comment, within, word, rest};
-ghost use Rattle.jobtext.specs.Number.{numeralOf};
+ghost use Rattle.tokens.specs.Tokens.{rest};
+ghost use Rattle.tokens.specs.Taking.{Position};
 ghost use Rattle.jobtext.specs.Job.{jobOfText, fromCount, fromOrder, fromType, fromSeries, isBelow, atEnd, job};
 ghost use Rattle.jobtext.specs.Message.{moduliWords, slipWords, message};
-ghost use Rattle.jobtext.specs.Reading.{Position, Takes, Fills, Follows};
-
-// What a byte is to the scan.
-pub enum Class {
-    Newline,
-    Hash,
-    Blank,
-    Other,
-}
-
-// A word read as a number.
-pub enum Numeral {
-    Is(u32),
-    NotNumber,
-    TooLarge,
-}
+ghost use Rattle.jobtext.specs.Reading.{Takes, Fills, Follows};
 
 // What is wrong with a text job. The last five are the refusals 1, 2, 3, 5 and 6 of document 01.
 pub enum Slip {
@@ -40,11 +27,6 @@ pub enum Slip {
     Order,
     Entry,
     Coefficient,
-}
-
-pub struct Place {
-    pub at: usize,
-    pub line: usize,
 }
 
 // The next number with its line, and the position after it; or what is wrong.
@@ -64,166 +46,28 @@ pub enum Parsed {
     Wrong { slip: Slip, line: usize },
 }
 
-fn wide(x: u8) -> u64
-    ensures { λ r. ⌜ r ≡ x ⌝ }
-{
-    x as u64
-}
-
-fn class_of(b: u8) -> Class
-    ensures { λ r. ⌜ r ≡ classOf b ⌝ }
-{
-    if b == 10 {
-        return Class::Newline;
-    }
-    if b == 35 {
-        return Class::Hash;
-    }
-    if b == 32 {
-        return Class::Blank;
-    }
-    if b == 9 {
-        return Class::Blank;
-    }
-    if b == 13 {
-        return Class::Blank;
-    }
-    Class::Other
-}
-
-// The end of a comment: the next new line, or the end of the text.
-fn line_end(text: &[u8], at: usize) -> usize
-    requires { ⌜ at ≤ length (now text) ⌝ }
-    ensures { λ r. ⌜ (at ≤ r) × (r ≤ length (now (text .entry))) × ((l : ℕ) → scan comment l (drop at (now (text .entry))) ≡ rest (now (text .entry)) r l) ⌝ }
-{
-    let mut end = at;
-    while end < text.len() {
-        if text[end] == 10 {
-            return end;
-        }
-        end += 1;
-    }
-    end
-}
-
-// The end of a word: the next byte that is none of a word, or the end of the text.
-fn word_end(text: &[u8], at: usize) -> usize
-    requires { ⌜ at ≤ length (now text) ⌝ }
-    ensures { λ r. ⌜ (at ≤ r) × (r ≤ length (now (text .entry))) × ((l : ℕ) → scan (within []) l (drop at (now (text .entry))) ≡ word l (take (r - at) (drop at (now (text .entry)))) (rest (now (text .entry)) r l)) ⌝ }
-{
-    let mut end = at;
-    while end < text.len() {
-        match class_of(text[end]) {
-            Class::Other => {
-                end += 1;
-            }
-            Class::Newline => {
-                return end;
-            }
-            Class::Hash => {
-                return end;
-            }
-            Class::Blank => {
-                return end;
-            }
-        }
-    }
-    end
-}
-
-// Past blanks, new lines and comments.
-fn skip(text: &[u8], at: usize, line: usize) -> Place
-    requires { ⌜ Position (now text) at line ⌝ }
-    ensures { λ r. ⌜ Position (now (text .entry)) (r .at) (r .line) × (rest (now (text .entry)) at line ≡ rest (now (text .entry)) (r .at) (r .line)) × (r .at < length (now (text .entry)) → classOf (getD (now (text .entry)) (r .at) 0) ≡ Class.Other) ⌝ }
-{
-    let mut here = at;
-    let mut count = line;
-    while here < text.len() {
-        match class_of(text[here]) {
-            Class::Newline => {
-                count += 1;
-                here += 1;
-            }
-            Class::Blank => {
-                here += 1;
-            }
-            Class::Hash => {
-                here = line_end(text, here + 1);
-            }
-            Class::Other => {
-                return Place {
-                    at: here,
-                    line: count,
-                };
-            }
-        }
-    }
-    Place {
-        at: here,
-        line: count,
-    }
-}
-
-// One digit more; a number that is too large stays so.
-fn with_digit(value: u64, digit: u8) -> u64
-    ensures { λ r. ⌜ (value < 2 ^ 32 → r ≡ value * 10 + digit) × (2 ^ 32 ≤ value → r ≡ value) ⌝ }
-{
-    if value <= 4294967295 {
-        value * 10 + wide(digit)
-    } else {
-        value
-    }
-}
-
-fn read_word(word: &[u8]) -> Numeral
-    ensures { λ r. ⌜ r ≡ numeralOf (now (word .entry)) ⌝ }
-{
-    let mut value: u64 = 0;
-    let mut k = 0;
-    while k < word.len() {
-        let b = word[k];
-        if b < 48 {
-            return Numeral::NotNumber;
-        }
-        if b > 57 {
-            return Numeral::NotNumber;
-        }
-        value = with_digit(value, b - 48);
-        k += 1;
-    }
-    if value < 4294967296 {
-        Numeral::Is(value as u32)
-    } else {
-        Numeral::TooLarge
-    }
-}
-
 fn take_number(text: &[u8], at: usize, line: usize) -> Next
     requires { ⌜ Position (now text) at line ⌝ }
     ensures { λ r. ⌜ Takes (now (text .entry)) (rest (now (text .entry)) at line) r ⌝ }
 {
-    let here = skip(text, at, line);
-    let start = here.at;
-    let on = here.line;
-    if start >= text.len() {
-        return Next::Wrong {
+    match tokens::take_word(text, at, line) {
+        Taken::Word { from, to, line: on } => match tokens::read_numeral(&text[from..to]) {
+            Numeral::Is(value) => Next::Number {
+                value,
+                at: to,
+                line: on,
+            },
+            Numeral::NotNumber => Next::Wrong {
+                slip: Slip::NotNumber,
+                line: on,
+            },
+            Numeral::TooLarge => Next::Wrong {
+                slip: Slip::TooLarge,
+                line: on,
+            },
+        },
+        Taken::End { line: on } => Next::Wrong {
             slip: Slip::EndsEarly,
-            line: on,
-        };
-    }
-    let end = word_end(text, start);
-    match read_word(&text[start..end]) {
-        Numeral::Is(value) => Next::Number {
-            value,
-            at: end,
-            line: on,
-        },
-        Numeral::NotNumber => Next::Wrong {
-            slip: Slip::NotNumber,
-            line: on,
-        },
-        Numeral::TooLarge => Next::Wrong {
-            slip: Slip::TooLarge,
             line: on,
         },
     }
@@ -292,20 +136,23 @@ fn finish(
     requires { ⌜ Position (now text) at line × (length (now d) ≤ length (now types)) × (length (now f) ≤ length (now series)) ⌝ }
     ensures { λ r. ⌜ Follows (atEnd (job p n s (now (d .entry)) (now (f .entry))) (rest (now (text .entry)) at line)) r (now (types .entry)) (now (types .exit)) (now (series .entry)) (now (series .exit)) ⌝ }
 {
-    let here = skip(text, at, line);
-    let end = here.at;
-    let on = here.line;
-    if end < text.len() {
-        return Parsed::Wrong {
+    match tokens::take_word(text, at, line) {
+        Taken::Word {
+            from: _,
+            to: _,
+            line: on,
+        } => Parsed::Wrong {
             slip: Slip::TooMany,
             line: on,
-        };
+        },
+        Taken::End { line: _ } => {
+            let entries = d.len();
+            let coefficients = f.len();
+            words::copy(d, &mut types[..entries]);
+            words::copy(f, &mut series[..coefficients]);
+            Parsed::Job(JobSizes { p, n, s })
+        }
     }
-    let entries = d.len();
-    let coefficients = f.len();
-    words::copy(d, &mut types[..entries]);
-    words::copy(f, &mut series[..coefficients]);
-    Parsed::Job(JobSizes { p, n, s })
 }
 
 // After the type: the coefficients, which are kept apart until the text is known to be right.

@@ -1,4 +1,5 @@
 -- Laws about lent words.
+pub mod Over
 pub mod Part
 pub mod Written
 pub mod Within

@@ -1,4 +1,5 @@
 -- How lent words are read.
+pub mod Lent
 pub mod Part
 pub mod Polynomial
 pub mod Some

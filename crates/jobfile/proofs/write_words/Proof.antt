@@ -7,7 +7,7 @@ use lib.ListN.{length}
 use Rattle.field.specs.Answer.{result}
 use Rattle.words.proofs.Sizes.{series-small}
 use Rattle.block.specs.File.{blocksFor, fileOf}
-use Rattle.block.specs.Lent.{over}
+use Rattle.words.specs.Lent.{over}
 use Rattle.jobfile.specs.Job.{Job, jobOf}
 use Rattle.jobfile.specs.Layout.{wordsOf, layout}
 use Rattle.jobfile.proofs.LaidOut.{length-words, blocks-few}

@@ -1,10 +1,10 @@
 -- `finish` meets its contract: the text is over, or has a word too many.
-use mathlib.Core.Path.{_≡_, ap, sym, _∙_}
-use mathlib.Core.List.{List, [], _++_}
+use mathlib.Core.Path.{_≡_, ap, sym}
+use mathlib.Core.List.{List, _++_}
 use Prim.Native.Nat.{ℕ, _≤_}
 use lib.ListN.{length, take, drop}
 use lib.Seq.{length-take-le}
-use Rattle.jobtext.proofs.Scan.{a-word, rest-word, rest-past}
+use Rattle.tokens.proofs.Taking.{took-word, took-end}
 use Rattle.jobtext.proofs.Reading.{end-reached, end-missed, follows-wrong, follows-job}
 use borrow.Author.Needs.{needs}
 use Rattle.jobtext.proofs.finish.Statement.{statement}
@@ -14,24 +14,21 @@ use Rattle.jobtext.proofs.finish.Tie as tie
 front-length : (from into : List ℕ) → length from ≤ length into → length from ≡ length (take (length from) into)
 front-length from into h = sym (length-take-le (length from) into h)
 
-skip-requires : tie.Need-skip-requires
-skip-requires c κs = search needs
+take-word-requires : tie.Need-take-word-requires
+take-word-requires c κs = search needs
 
-returns : tie.Need-returns
-returns c =
-    let here = c .before .skip in
-    let at = here .result .at in
-    let line = here .result .line in
-    let x = a-word (drop at (c .before .before .before .before .before .before .before .args .text .now)) [] line in
-    follows-wrong _ line _ _
-    (end-missed _ line (x .0) (x .1) _ (here .ensures .1 ∙ rest-word _ at (c .if1 .taken) line (here .ensures .2 (c .if1 .taken)) ∙ x .2))
+enum-known-on : tie.Need-enum-known-on
+enum-known-on c = search needs
+
+enum-told : tie.Need-enum-told
+enum-told c = search needs
 
 slice-relend-prefix-copy : tie.Need-slice-relend-prefix-copy
 slice-relend-prefix-copy c = search needs
 
 slice-aggregate-copy : tie.Need-slice-aggregate-copy
 slice-aggregate-copy c =
-    let start = c .before .before .before .before .before .before .before .before in
+    let start = c .before .before .before .before .before .before .before .before .before in
     front-length (start .args .d .now) (start .args .types .now) (start .pre .1)
 
 copy-requires : tie.Need-copy-requires
@@ -42,11 +39,16 @@ slice-relend-prefix-copy-2 c = search needs
 
 slice-aggregate-copy-2 : tie.Need-slice-aggregate-copy-2
 slice-aggregate-copy-2 c =
-    let start = c .before .before .before .before .before .before .before .before .before .before .before .before in
+    let start = c .before .before .before .before .before .before .before .before .before .before .before .before .before in
     front-length (start .args .f .now) (start .args .series .now) (start .pre .2)
 
 copy-requires-2 : tie.Need-copy-requires-2
 copy-requires-2 c κs = slice-aggregate-copy-2 c
+
+returns : tie.Need-returns
+returns c =
+    let taken = took-word _ _ _ (c .before .on .given .1) (c .before .before .before .take-word .ensures) in
+    follows-wrong _ _ _ _ (end-missed _ _ _ _ _ (taken .3))
 
 same-length : tie.Need-same-length
 same-length c = search needs
@@ -56,10 +58,10 @@ same-length-2 c = search needs
 
 returns-2 : tie.Need-returns-2
 returns-2 c =
-    let a = c .before .before .before .before .before .before .before .before .before .before .before .before .before .before .before .args in
-    let here = c .before .before .before .before .before .before .before .before .before .skip in
+    let told = c .before .before .before .before .before .before .before .before in
+    let a = c .before .before .before .before .before .before .before .before .before .before .before .before .before .before .before .before .args in
     follows-job _ _ _ _ _ _ _ _ _
-    (end-reached _ (here .result .line) _ (here .ensures .1 ∙ rest-past _ (here .result .at) (c .before .before .before .before .before .before .before .before .if1 .left) (here .result .line)))
+    (end-reached _ _ _ (took-end _ _ _ (told .enum-told .given .1) (told .before .before .take-word .ensures)))
     (ap (λ (l : List ℕ). l ++ drop (length (a .d .now)) (a .types .now)) (c .before .before .before .before .before .before .copy .ensures))
     (ap (λ (l : List ℕ). l ++ drop (length (a .f .now)) (a .series .now)) (c .before .before .copy2 .ensures))
 
@@ -67,14 +69,16 @@ pub finish-spec : {M : Type 1} → statement M
 finish-spec =
     tie.close
     (tie.spec
-    skip-requires
-    returns
+    take-word-requires
+    enum-known-on
+    enum-told
     slice-relend-prefix-copy
     slice-aggregate-copy
     copy-requires
     slice-relend-prefix-copy-2
     slice-aggregate-copy-2
     copy-requires-2
+    returns
     same-length
     same-length-2
     returns-2)

@@ -8,7 +8,7 @@ use Rattle.field.specs.ModulusTest.{isModulus}
 use Rattle.field.proofs.ModulusTest.{modulus-test}
 use Rattle.field.proofs.Unique.{test-unique}
 use Rattle.jobtext.specs.declared.Slip.{Slip}
-use Rattle.jobtext.specs.Tokens.{tokens, rest}
+use Rattle.tokens.specs.Tokens.{tokens, rest}
 use Rattle.jobtext.specs.Job.{fromCount, jobOfText}
 use Rattle.jobtext.proofs.Reading.{took-number, took-passed, took-failed, took-wrong, follows-same, follows-wrong}
 use borrow.Author.Needs.{needs}

@@ -6,9 +6,10 @@ use native.Mathlib.Omega.{arith}
 use borrow.Author.Needs.{needs}
 use borrow.Author.Tests.{lt-ltb, le-ltb}
 use lib.ListN.{length, take, length-set}
-use Rattle.jobtext.specs.Tokens.{Tokens, rest}
+use Rattle.tokens.specs.Tokens.{Tokens, rest}
+use Rattle.tokens.specs.Taking.{Position}
 use Rattle.jobtext.specs.Job.{JobText, manyNumbers, isBelow}
-use Rattle.jobtext.specs.Reading.{Position, Fills}
+use Rattle.jobtext.specs.Reading.{Fills}
 use Rattle.jobtext.proofs.Reading.{took-number, took-wrong, many-failed, many-wrong, many-end, set-none, set-turn}
 use Rattle.jobtext.proofs.read_numbers.Statement.{statement}
 use Rattle.jobtext.proofs.read_numbers.Tie as tie

@@ -1,0 +1,4 @@
+-- What the contracts of `tokens` cite.
+pub mod Tokens
+pub mod Number
+pub mod Taking
