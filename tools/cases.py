@@ -173,12 +173,12 @@ def lent_text(count=TEXT):
     return repeated(170, count)
 
 
-def basis_request(p, n, s, type_, series, count):
-    return Request('basis', p, n, s, type_, series, lent_words(count), sums=is_long(count))
+def basis_request(p, n, s, type_, series, count, sums=False):
+    return Request('basis', p, n, s, type_, series, lent_words(count), sums=sums)
 
 
-def approximant_request(p, n, type_, series, count):
-    return Request('approximant', p, n, type_, series, lent_words(count), sums=is_long(count))
+def approximant_request(p, n, type_, series, count, sums=False):
+    return Request('approximant', p, n, type_, series, lent_words(count), sums=sums)
 
 
 def pair_request(p, k, g, r_len, t_len):
@@ -281,12 +281,12 @@ def full_but_one(filling, count, at, word):
 
 def basis_calls_section():
     for p, n, s, type_len, series_len, basis_len, at, entry, place, term in BASIS_CALLS:
-        yield basis_request(p, n, s, full_but_one(0, type_len, at, entry), full_but_one(0, series_len, place, term), basis_len)
+        yield basis_request(p, n, s, full_but_one(0, type_len, at, entry), full_but_one(0, series_len, place, term), basis_len, is_long(basis_len))
 
 
 def approximant_calls_section():
     for p, n, base, type_len, series_len, basis_len, at, entry, place, term in APPROXIMANT_CALLS:
-        yield approximant_request(p, n, full_but_one(base, type_len, at, entry), full_but_one(0, series_len, place, term), basis_len)
+        yield approximant_request(p, n, full_but_one(base, type_len, at, entry), full_but_one(0, series_len, place, term), basis_len, is_long(basis_len))
 
 
 def pair_calls_section():
@@ -445,6 +445,8 @@ def block_section():
     yield remark('the same in block 0, read as a file: sound; a check is wrong; the number is wrong')
     for block in block_states(0):
         yield read_request(block)
+    yield remark('the number made right only after the checks: they are wrong')
+    yield read_request(damaged(reference.block(5, [7, 2, 3] + [0] * 122), [(0, 0, UNSEALED)]))
 
 
 def write_section():
