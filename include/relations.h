@@ -5,12 +5,13 @@
 // of the first test in its order that holds. On any status but 0 every buffer stays as lent. A pointer to a buffer of
 // length 0 is not used, but must not be null. Lent buffers must not overlap. The number of elements of x is x_len.
 //
-//    1  p below 2, above 2147483647 or composite       7  k outside 1 to N
-//    2  n outside 1 to 8                               8  file length zero, not a multiple of 512, or over 8704 bytes
-//    3  order above 255                                9  block number wrong
-//    4  a lent buffer has another length than stated  10  check A or B wrong
-//    5  a type entry above 255                        11  block count differs from the header's
-//    6  a coefficient not below p                     12  a spare payload word is not zero
+//    1  p below 2, above 2147483647 or composite       8  file length zero, not a multiple of 512, or over 8704 bytes
+//    2  n outside 1 to 8                               9  block number wrong
+//    3  order above 255                               10  check A or B wrong
+//    4  a lent buffer has another length than stated  11  block count differs from the header's
+//    5  a type entry above 255                        12  a spare payload word is not zero
+//    6  a coefficient not below p                     13  no fraction exists
+//    7  k outside 1 to N
 //
 // An answer buffer of another length than stated gives 4 before every other test. Statuses above 255 have no number in that table and are
 // defined below.
@@ -66,9 +67,11 @@ uint32_t relations_approximant(uint32_t p, uint32_t n,
                                uint32_t *basis, size_t basis_len,
                                uint32_t *answer, size_t answer_len);
 
-// The pair r, t with r = t * g to order N = g_len, deg r below k and deg t at most N - k: the approximant of (-1, g) of
-// type (k - 1, N - k). r: k words. t: N - k + 1 words, never all zero.
-// Order: 1, 3 for N, 7, 4, 6.
+// The fraction r / t in lowest terms whose series is g to order N = g_len: r = t * g to order N, deg r below k, deg t at most N - k,
+// t[0] = 1, and only constants divide both r and t modulo p. There is at most one such pair; for g = 0 it is r = 0, t = 1.
+// r: k words. t: N - k + 1 words. Unused places zero. Where no r and t of these degrees have t[0] not zero and r = t * g to order N,
+// and nowhere else, the status is 13, and both stay as lent.
+// Order: 1, 3 for N, 7, 4, 6, 13.
 uint32_t relations_pair(uint32_t p, uint32_t k,
                         const uint32_t *g, size_t g_len,
                         uint32_t *r, size_t r_len,

@@ -66,6 +66,15 @@ uint32_t algebra_invert(uint32_t p, uint32_t a, uint32_t *inverse)
     return status;
 }
 
+// The place of the first word that is not zero; len where there is none.
+static uint32_t first_place(const uint32_t *vector, uint32_t len)
+{
+    uint32_t at = 0;
+    while (at < len && vector[at] == 0)
+        at++;
+    return at;
+}
+
 // ---- The reduced minimal basis, by elimination
 //
 // V_s is the kernel of the map that sends X^k in entry i to the coefficients 0 to s - 1 of X^k f_i. Positions (i, k) are
@@ -88,10 +97,7 @@ static uint32_t reduce(uint32_t p, uint32_t s, uint32_t rank, uint32_t *image, u
             for (uint32_t j = 0; j < s; j++)
                 image[j] = (uint32_t)((image[j] + (p - c) * independent[l].image[j]) % p);
     }
-    uint32_t column = 0;
-    while (column < s && image[column] == 0)
-        column++;
-    return column;
+    return first_place(image, s);
 }
 
 // The row that says how position (i, k) depends on the independent ones.
@@ -156,6 +162,49 @@ static void solve(uint32_t p, uint32_t n, uint32_t s, const uint32_t *type, cons
     answer[1] = 0;
     for (uint32_t i = 0; i < n; i++)
         answer[1] += pivots[i];
+}
+
+// ---- The fraction, by elimination
+//
+// Column u has the coefficients k to N - 1 of X^u g, and behind them a 1 at place u of t. Columns 1, 2, .. are taken into an echelon form and
+// cleared out of column 0. Once its coefficients are zero, what stands behind them is the t of least degree with t(0) = 1, that of the fraction
+// in lowest terms.
+
+static uint32_t echelon[HIGHEST][2 * HIGHEST], places[HIGHEST]; // vector l is 1 at places[l]
+
+static void clear(uint32_t p, uint32_t width, uint32_t *vector, uint32_t l)
+{
+    uint64_t c = vector[places[l]];
+    for (uint32_t j = 0; c != 0 && j < width; j++)
+        vector[j] = (uint32_t)((vector[j] + (p - c) * echelon[l][j]) % p);
+}
+
+// Whether there is such a t; it is written to room + 1 words.
+static int lowest_denominator(uint32_t p, uint32_t k, uint32_t room, const uint32_t *g, uint32_t *t)
+{
+    uint32_t rank = 0, width = 2 * room + 1, rest[2 * HIGHEST] = {0};
+    memcpy(rest, g + k, room * sizeof *rest);
+    rest[room] = 1;
+    for (uint32_t u = 1; u <= room && first_place(rest, room) < room; u++) {
+        uint32_t *column = echelon[rank];
+        memset(column, 0, width * sizeof *column);
+        for (uint32_t j = 0; j < room; j++)
+            column[j] = k + j >= u ? g[k + j - u] : 0;
+        column[room + u] = 1;
+        for (uint32_t l = 0; l < rank; l++)
+            clear(p, width, column, l);
+        places[rank] = first_place(column, room);
+        if (places[rank] == room)
+            continue;
+        uint32_t scale = power(p, column[places[rank]], p - 2);
+        for (uint32_t j = 0; j < width; j++)
+            column[j] = (uint32_t)((uint64_t)column[j] * scale % p);
+        clear(p, width, rest, rank++);
+    }
+    if (first_place(rest, room) < room)
+        return 0;
+    memcpy(t, rest + room, (room + 1) * sizeof *t);
+    return 1;
 }
 
 // ---- The calls, each with its refusals in its own order
@@ -224,13 +273,14 @@ uint32_t algebra_pair(uint32_t p, uint32_t k, const uint32_t *g, size_t g_len, u
         return 4;
     if (any_above(g, g_len, p - 1))
         return 6;
-    uint32_t type[2] = {k - 1, order - k}, series[2 * HIGHEST] = {0}, basis[4 * (HIGHEST + 1)], pivots[2];
-    series[0] = p - 1;
-    memcpy(series + order, g, g_len * sizeof *g);
-    rows(p, 2, order, type, series, basis, pivots);
-    const uint32_t *row = basis + least_of(2, type, pivots) * 2 * (order + 1);
-    memcpy(r, row, r_len * sizeof *r);
-    memcpy(t, row + order + 1, t_len * sizeof *t);
+    if (!lowest_denominator(p, k, order - k, g, t))
+        return 13;
+    for (uint32_t j = 0; j < k; j++) {
+        uint64_t sum = 0;
+        for (uint32_t u = 0; u <= j && u < t_len; u++)
+            sum = (sum + (uint64_t)t[u] * g[j - u]) % p;
+        r[j] = (uint32_t)sum;
+    }
     return 0;
 }
 

@@ -296,11 +296,50 @@ static void try_approximant(void)
 
 // ---- The pair
 
+// The series of r / t to an order; t[0] is not zero.
+static void expand(uint32_t p, const uint32_t *r, size_t r_len, const uint32_t *t, size_t t_len, uint32_t order, uint32_t *g)
+{
+    uint32_t inverse = 0;
+    algebra_invert(p, t[0], &inverse);
+    for (uint32_t j = 0; j < order; j++) {
+        uint64_t sum = j < r_len ? r[j] : 0;
+        for (uint32_t u = 1; u <= j && u < t_len; u++)
+            sum = (sum + (uint64_t)(p - t[u]) * g[j - u]) % p;
+        g[j] = (uint32_t)(sum * inverse % p);
+    }
+}
+
+enum known { UNKNOWN, FRACTION, NO_FRACTION };
+
+// Draws a series for the pair; answers what is known of it in advance. Most are fractions, some of degrees that leave room in the bounds: then r and t
+// times other polynomials are fractions of the same series. Where X^m r and X^m t fit the bounds, a change at X^(N-m) leaves no fraction: those two
+// still hold to order N, so every fraction would be r / t.
+static enum known draw_quotient(uint32_t p, uint32_t k, uint32_t order, uint32_t *g)
+{
+    uint32_t way = draw(6), r_most = k, t_most = order - k + 1, r[256], t[256] = {1 + draw(p - 1)};
+    uint32_t r_len = way == 1 ? r_most : 1 + draw(r_most), t_len = way == 1 ? t_most : 1 + draw(t_most);
+    uint32_t spare = r_most - r_len < t_most - t_len ? r_most - r_len : t_most - t_len;
+    if (way == 0) {
+        draw_series(p, 1, order, g);
+        return UNKNOWN;
+    }
+    for (uint32_t u = 0; u < r_len; u++)
+        r[u] = one_in(4) ? 0 : draw(p);
+    for (uint32_t u = 1; u < t_len; u++)
+        t[u] = draw(p);
+    expand(p, r, r_len, t, t_len, order, g);
+    if (way < 4 || spare == 0)
+        return FRACTION;
+    uint32_t *changed = g + order - 1 - draw(spare);
+    *changed = (uint32_t)(((uint64_t)*changed + 1 + draw(p - 1)) % p);
+    return NO_FRACTION;
+}
+
 static void try_pair(void)
 {
     static uint32_t g[2040], r[2040], t[2040];
     uint32_t p = PICK(primes), order = 1 + draw_order() % 255, k = 1 + draw(order);
-    draw_series(p, 1, order, g);
+    draw_quotient(p, k, order, g);
     size_t r_len = k, t_len = order - k + 1, g_len = order;
     int faulty = one_in(2);
     if (faulty) {
@@ -535,7 +574,7 @@ static void try_text(void)
 static void try_refused(void)
 {
     static char text[32];
-    uint32_t number = one_in(2) ? 1 + draw(12) : one_in(2) ? PICK(large) : (uint32_t)next() >> draw(32);
+    uint32_t number = one_in(2) ? 1 + draw(13) : one_in(2) ? PICK(large) : (uint32_t)next() >> draw(32);
     size_t text_len = text_length(), answer_len = answer_length(1);
     lend(&text_, text_len);
     lend_words(&answer_, answer_len);
@@ -834,23 +873,57 @@ static void try_degrees(void)
     check(small, "approximant's degrees are at most the type's");
 }
 
-// Demand 2: r = t g to order N, and t is not zero.
+// The degree of a polynomial of up to 256 words; -1 for zero.
+static int degree(const uint32_t *words)
+{
+    int at = 255;
+    while (at >= 0 && words[at] == 0)
+        at--;
+    return at;
+}
+
+// Whether only constants divide both polynomials, by Euclid.
+static int are_coprime(uint32_t p, const uint32_t *r, uint32_t r_len, const uint32_t *t, uint32_t t_len)
+{
+    uint32_t a[256] = {0}, b[256] = {0}, *x = a, *y = b, inverse = 0;
+    for (uint32_t u = 0; u < t_len; u++)
+        a[u] = t[u] % p;
+    for (uint32_t u = 0; u < r_len; u++)
+        b[u] = r[u] % p;
+    for (int e = degree(y); e >= 0; e = degree(y)) {
+        algebra_invert(p, y[e], &inverse);
+        for (int top = degree(x); top >= e; top--) {
+            uint64_t c = (uint64_t)x[top] * inverse % p;
+            for (int u = 0; u <= e; u++)
+                x[top - e + u] = (uint32_t)((x[top - e + u] + (p - c) * y[u]) % p);
+        }
+        uint32_t *rest = x;
+        x = y;
+        y = rest;
+    }
+    return degree(x) == 0;
+}
+
+// A pair is refused only where there is no fraction; otherwise r = t g to order N, t(0) = 1 and r and t have no common factor.
 static void try_fraction(void)
 {
     static uint32_t g[255], r[255], t[256];
     uint32_t p = PICK(primes), order = 1 + draw_order() % 255, k = 1 + draw(order);
-    draw_series(p, 1, order, g);
-    check(relations_pair(p, k, g, order, r, k, t, order - k + 1) == 0, "admitted");
-    int equal = 1, zero = 1;
+    enum known known = draw_quotient(p, k, order, g);
+    uint32_t status = relations_pair(p, k, g, order, r, k, t, order - k + 1);
+    check(known == NO_FRACTION ? status == 13 : status == 0 || (known == UNKNOWN && status == 13), "refused where there is no fraction");
+    if (status != 0)
+        return;
+    int equal = 1;
     for (uint32_t at = 0; at < order; at++) {
         uint64_t sum = 0;
         for (uint32_t u = 0; u <= at && u <= order - k; u++)
             sum = (sum + (uint64_t)t[u] * g[at - u]) % p;
         equal &= sum == (at < k ? r[at] : 0);
     }
-    for (uint32_t u = 0; u <= order - k; u++)
-        zero &= t[u] == 0;
-    check(equal && !zero, "r = t g to order N, t not zero");
+    check(equal, "r = t g to order N");
+    check(t[0] == 1, "t(0) = 1");
+    check(are_coprime(p, r, k, t, order - k + 1), "no common factor");
 }
 
 // What is written is read back, and a file that is read writes back to the same bytes.
@@ -893,7 +966,7 @@ int main(int argc, char **argv)
     repeat("approximant", try_approximant, 2000 * scale);
     finish(NUMBERS(0, 1, 2, 3, 4, 5, 6));
     repeat("pair", try_pair, 2000 * scale);
-    finish(NUMBERS(0, 1, 3, 4, 6, 7));
+    finish(NUMBERS(0, 1, 3, 4, 6, 7, 13));
     repeat("row view", try_row, 2000 * scale);
     finish(NUMBERS(0, 4));
     repeat("writer", try_write, 1000 * scale);
@@ -912,7 +985,7 @@ int main(int argc, char **argv)
     finish(NUMBERS(0, 1, 2, 3, 4, 5, 6, 257, 258, 259, 260));
     repeat("demand 2: shape of the basis", try_shape, 500 * scale);
     repeat("demand 2: degrees", try_degrees, 500 * scale);
-    repeat("demand 2: fraction", try_fraction, 500 * scale);
+    repeat("fractions", try_fraction, 500 * scale);
     repeat("demand 3: same relations", try_same_relations, 300 * scale);
     repeat("demand 3: other relations", try_other_relations, 300 * scale);
     repeat("demand 3: combinations", try_combinations, 300 * scale);

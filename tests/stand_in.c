@@ -1,4 +1,4 @@
-// A stand-in for the engine, to try the harness itself: tests/outside must pass over it, and must fail for each -DSLIP=1 to 26.
+// A stand-in for the engine, to try the harness itself: tests/outside must pass over it, and must fail for each -DSLIP=1 to 40.
 // It follows the engine's algorithm without its economy, and is no part of the product.
 #include "relations.h"
 
@@ -186,6 +186,16 @@ uint32_t relations_approximant(uint32_t p, uint32_t n, const uint32_t *type, siz
     return 0;
 }
 
+// What makes t(0) = 1; 36: the leading coefficient made 1.
+static uint32_t scale_of(uint32_t p, const uint32_t *t, uint32_t top)
+{
+    if (SLIP == 35 || t[0] == 0) // unscaled
+        return 1;
+    while (t[top] == 0)
+        top--;
+    return inverse(p, t[SLIP == 36 ? top : 0]);
+}
+
 uint32_t relations_pair(uint32_t p, uint32_t k, const uint32_t *g, size_t g_len, uint32_t *r, size_t r_len, uint32_t *t, size_t t_len)
 {
     static uint32_t basis[1024], series[510], answer[2];
@@ -198,14 +208,28 @@ uint32_t relations_pair(uint32_t p, uint32_t k, const uint32_t *g, size_t g_len,
         return 7;
     if (r_len != k || t_len != s - k + 1)
         return 4;
-    if (above(g, s, p - 1, 6))
+    if (above(g, s, p - 1, 6) && SLIP != 37)
         return 6;
     memset(series, 0, sizeof series);
     series[0] = p - 1;
     memcpy(series + s, g, 4 * s);
     uint32_t type[2] = {k - 1, s - k};
     solve(p, 2, s, type, series, basis, answer);
-    const uint32_t *row = basis + (answer[0] - 1) * 2 * (s + 1), *first = row, *second = row + s + 1;
+    uint32_t *row = basis + (answer[0] - 1) * 2 * (s + 1), *first = row, *second = row + s + 1;
+    if (SLIP == 38) // written before a refusal
+        memcpy(r, first, 4 * k);
+    if (second[0] == 0 && SLIP != 34) // 34: the row as it is
+        return 13;
+    if (SLIP == 39 && !above(first, k, 0, 1)) // zero refused
+        return 13;
+    if (SLIP == 37 && above(g, s, p - 1, 6)) // the order swapped
+        return 6;
+    uint32_t scale = scale_of(p, second, s - k);
+    for (uint32_t u = 0; u < 2 * (s + 1); u++)
+        row[u] = times(p, row[u], scale);
+    if (SLIP == 40 && first[k - 1] == 0 && second[s - k] == 0) // a common factor, 1 + X
+        for (uint32_t u = 2 * s + 1; u > 0; u--)
+            row[u] = (row[u] + row[u - 1]) % p;
     memcpy(r, SLIP == 18 ? second : first, 4 * k); // r and t exchanged
     memcpy(t, SLIP == 18 ? first : second, 4 * (s - k + 1));
     return 0;

@@ -152,11 +152,34 @@ APPROXIMANT_JOBS = [  # the third number is the order of the type
     (LARGEST, 7, 223, 8, 0, 5, 9), (LARGEST, 6, 20, 6, 0, 3, 10), (5, 4, 9, 6, 0, 0, 11), (101, 3, 110, 2, 0, 7, 12),
 ]
 
-PAIR_JOBS = [  # p, k, N, zeros, series rule, seed
-    (7, 1, 1, 0, 8, 1), (2, 1, 255, 0, 1, 2), (2, 255, 255, 0, 1, 3), (LARGEST, 128, 255, 0, 1, 4),
-    (LARGEST, 1, 255, 0, 1, 5), (LARGEST, 255, 255, 0, 1, 6), (LARGEST, 100, 255, 60, 1, 7),
-    (LARGEST, 100, 200, 150, 1, 8), (3, 5, 12, 0, 1, 9), (3, 5, 12, 12, 0, 10), (101, 20, 40, 0, 2, 11),
-    (5, 2, 9, 0, 8, 12), (65537, 30, 77, 1, 2, 13), (2, 3, 7, 2, 1, 14),
+PAIR_JOBS = [  # what a group is; p, k, N, zeros, series rule, seed
+    ('drawn series', [
+        (7, 1, 1, 0, 8, 1), (2, 1, 255, 0, 1, 2), (2, 255, 255, 0, 1, 3), (LARGEST, 128, 255, 0, 1, 4),
+        (LARGEST, 1, 255, 0, 1, 5), (LARGEST, 255, 255, 0, 1, 6), (LARGEST, 100, 255, 60, 1, 7),
+        (LARGEST, 100, 200, 150, 1, 8), (3, 5, 12, 0, 1, 9), (3, 5, 12, 12, 0, 10), (101, 20, 40, 0, 2, 11),
+        (5, 2, 9, 0, 8, 12), (65537, 30, 77, 1, 2, 13), (2, 3, 7, 2, 1, 14)]),
+    ('the zero series', [(2, 1, 1, 0, 0, 15), (7, 3, 5, 0, 0, 16), (LARGEST, 1, 255, 0, 0, 17), (LARGEST, 255, 255, 0, 0, 18)]),
+    ('k - 1 zeros; k zeros and N - 1 zeros, after which there is no fraction', [
+        (7, 3, 9, 2, 1, 19), (LARGEST, 128, 255, 127, 1, 20), (7, 3, 9, 3, 1, 22), (LARGEST, 128, 255, 128, 1, 23), (7, 3, 9, 8, 1, 25),
+        (LARGEST, 254, 255, 254, 1, 24)]),
+]
+
+FRACTIONS = [  # what a group is; p, k, N, degrees that r, t and a common factor have at most, seed
+    ('r and t may fill their bounds', [
+        (2, 1, 1, 0, 0, 0, 1), (LARGEST, 1, 1, 0, 0, 0, 2), (2, 7, 15, 6, 8, 0, 3), (3, 4, 9, 3, 5, 0, 4), (101, 20, 40, 19, 20, 0, 5), (2, 30, 61, 29, 31, 0, 6),
+        (LARGEST, 1, 40, 0, 39, 0, 7), (LARGEST, 40, 40, 39, 0, 0, 8), (LARGEST, 128, 255, 127, 127, 0, 9), (65537, 200, 255, 199, 55, 0, 10)]),
+    ('the bounds leave room, so r and t times other polynomials fit too', [
+        (2, 8, 20, 3, 4, 0, 11), (2, 20, 40, 9, 9, 0, 12), (2, 100, 255, 20, 30, 0, 13), (3, 10, 30, 2, 5, 0, 14), (7, 5, 12, 0, 2, 0, 15), (7, 6, 12, 4, 0, 0, 16), (101, 30, 63, 10, 3, 0, 17),
+        (65537, 40, 100, 7, 30, 0, 18), (2147483629, 60, 120, 20, 59, 0, 19), (LARGEST, 16, 32, 3, 4, 0, 20), (LARGEST, 128, 255, 0, 1, 0, 21), (LARGEST, 100, 255, 60, 60, 0, 22),
+        (LARGEST, 30, 255, 29, 1, 0, 23)]),
+    ('r and t are drawn with a common factor', [
+        (2, 8, 16, 4, 4, 3, 24), (3, 6, 12, 2, 3, 3, 25), (7, 2, 9, 0, 3, 1, 26), (7, 10, 21, 4, 6, 5, 27), (101, 30, 60, 9, 10, 20, 28), (LARGEST, 16, 32, 7, 8, 8, 29),
+        (LARGEST, 128, 255, 63, 63, 64, 30)]),
+]
+
+NEAR_FRACTIONS = [  # p, k, N, degrees that r and t have at most, how far before the end of the series of r / t one coefficient is changed, seed
+    (2, 8, 20, 3, 4, 1, 11), (2, 8, 20, 3, 4, 4, 11), (2, 100, 255, 20, 30, 79, 13), (3, 10, 30, 2, 5, 7, 14), (7, 5, 12, 0, 2, 1, 15), (7, 6, 12, 4, 0, 1, 16),
+    (101, 30, 63, 10, 3, 19, 17), (2147483629, 60, 120, 20, 59, 1, 19), (LARGEST, 16, 32, 3, 4, 12, 20), (LARGEST, 128, 255, 0, 1, 126, 21), (LARGEST, 100, 255, 60, 60, 1, 22),
 ]
 
 
@@ -200,8 +223,52 @@ def approximant_section():
 
 
 def pair_section():
-    for p, k, order, zeros, rule, seed in PAIR_JOBS:
-        yield pair_request(p, k, series_word(p, 1, order, zeros, rule, seed), k, order - k + 1)
+    for about, rows in PAIR_JOBS:
+        yield remark(about)
+        for p, k, order, zeros, rule, seed in rows:
+            yield pair_request(p, k, series_word(p, 1, order, zeros, rule, seed), k, order - k + 1)
+
+
+def with_constant(p, degree, seed):
+    """A polynomial whose constant term is not zero."""
+    return [1 + draw(seed, p - 1, 1)[0]] + list(draw(seed + 1, p, degree))
+
+
+def drawn_fraction(p, r_degree, t_degree, seed):
+    """r, and t with a constant term that is not zero."""
+    return list(draw(100 * seed, p, r_degree + 1)), with_constant(p, t_degree, 100 * seed + 1)
+
+
+def expanded(p, r, t, order):
+    """The series r / t to that order."""
+    inverse = reference.inverse(p, t[0])
+    g = []
+    for j in range(order):
+        known = sum(t[u] * g[j - u] for u in range(1, min(j, len(t) - 1) + 1))
+        g.append(((r[j] if j < len(r) else 0) - known) * inverse % p)
+    return g
+
+
+def fraction_section():
+    for about, rows in FRACTIONS:
+        yield remark(about)
+        for p, k, order, r_degree, t_degree, c_degree, seed in rows:
+            assert r_degree + c_degree < k and t_degree + c_degree <= order - k
+            r, t = drawn_fraction(p, r_degree, t_degree, seed)
+            c = with_constant(p, c_degree, 100 * seed + 3)
+            g = expanded(p, *(reference.product(p, c, part, len(part) + c_degree) for part in (r, t)), order)
+            found_r, found_t = [0] * k, [0] * (order - k + 1)
+            reference.pair(p, k, g, found_r, found_t)
+            assert reference.product(p, found_r, t, 2 * order) == reference.product(p, r, found_t, 2 * order)
+            assert reference.degree(found_r) <= r_degree and reference.degree(found_t) <= t_degree
+            yield pair_request(p, k, written(g), k, order - k + 1)
+    yield remark('no fraction: one coefficient of such a series changed, so near the end that a power of X times r and t stays within the bounds')
+    for p, k, order, r_degree, t_degree, before_end, seed in NEAR_FRACTIONS:
+        assert before_end <= min(k - 1 - r_degree, order - k - t_degree)
+        g = expanded(p, *drawn_fraction(p, r_degree, t_degree, seed), order)
+        g[order - before_end] = (g[order - before_end] + 1) % p
+        assert reference.lowest_denominator(p, k, g) is None
+        yield pair_request(p, k, written(g), k, order - k + 1)
 
 
 # ---- Refusals, alone and in pairs ------------------------------------------------------------
@@ -257,8 +324,10 @@ PAIR_CALLS = faults(
      [dict(terms=256), dict(terms=257)],
      [dict(k=0), dict(k=5), dict(k=257), dict(k=TOP), dict(terms=0), dict(k=0, terms=0, r_len=0, t_len=1), dict(k=1, terms=0, r_len=1, t_len=0)],
      [dict(r_len=1), dict(r_len=3), dict(r_len=0), dict(t_len=2), dict(t_len=4), dict(t_len=0)],
-     [dict(place=3, g_word=7), dict(place=0, g_word=7), dict(place=2, g_word=TOP)]]) + [
-    (7, 256, 256, 256, 1, 0, 6), (7, 255, 255, 255, 1, 0, 6), (2, 1, 1, 1, 1, 0, 1), (LARGEST, 1, 2, 1, 2, 1, 2147483646)]
+     [dict(place=3, g_word=7), dict(place=0, g_word=7), dict(place=2, g_word=TOP)],
+     [dict(place=2), dict(place=3)]]) + [
+    (7, 256, 256, 256, 1, 0, 6), (7, 255, 255, 255, 1, 0, 6), (2, 1, 1, 1, 1, 0, 1), (LARGEST, 1, 2, 1, 2, 1, 2147483646),
+    (7, 2, 4, 2, 3, 2, 8), (7, 2, 4, 2, 3, 3, 13)]  # not below p, and its residue leaves no fraction
 
 ROW_VIEWS = [  # what a group is; n, s, row number, length of the basis
     ('rows', [(2, 3, 1, 16), (2, 3, 2, 16), (1, 0, 1, 1), (8, 0, 8, 64)] + [(8, 255, i, 16384) for i in range(1, 9)]),
@@ -310,7 +379,7 @@ def worked_section():
         yield basis_request(p, n, s, written(d), written(series), n * n * (s + 1))
     yield remark('C7 as an approximant')
     yield approximant_request(7, 1, written([0]), written([]), 1)
-    for name, g in ('C8', [1, 1, 2]), ('C9', [0, 1]):
+    for name, g, _ in reference.WORKED_PAIRS:
         yield remark(name)
         yield pair_request(7, 1, written(g), 1, len(g))
     yield remark('C10')
@@ -587,7 +656,7 @@ def basis_text_section():
 
 def refusal_text_section():
     yield remark('refusals, and numbers that are none')
-    for number in (1, 8, 12, 0, 256, TOP):
+    for number in (1, 8, 12, 13, 0, 256, TOP):
         yield Request('refused', number, lent_text(), sums=True)
     yield remark('the length of the text')
     for lengths in TEXT_LENGTHS:
@@ -761,6 +830,7 @@ SECTIONS = [
     ('Bases of jobs of every size', basis_section),
     ('Approximants', approximant_section),
     ('Pairs', pair_section),
+    ('Pairs of series that are fractions, and of series close to them', fraction_section),
     ('The basis call: a good one, each refusal, and two faults at once for each two tests', basis_calls_section),
     ('The approximant call in the same way', approximant_calls_section),
     ('The pair call in the same way', pair_calls_section),

@@ -134,6 +134,42 @@ def solve(p, n, s, d, series, out):
     return least_row(pivots, d), sum(pivots)
 
 
+# ---- The fraction ------------------------------------------------------------------------
+
+def product(p, a, b, count):
+    """The first coefficients, so many, of the product of two polynomials or series."""
+    return [sum(a[u] * b[j - u] for u in range(j + 1) if u < len(a) and j - u < len(b)) % p for j in range(count)]
+
+
+def lowest_denominator(p, k, g):
+    """The t of least degree with t(0) = 1 for which the coefficients k to N - 1 of t * g are zero; None where there is none.
+
+    Column u has these coefficients of X^u g, and behind them a 1 at place u of t. Columns 1, 2, .. are taken into an echelon form and cleared
+    out of column 0, until its coefficients are zero: what stands behind them is then t. All fractions are multiples of the one in lowest terms, so
+    it has the least degree, and no other with t(0) = 1 has that degree.
+    """
+    room = len(g) - k  # for the degree of t; as many coefficients must be zero
+    columns = [([0] * u + list(g))[k:len(g)] + [int(u == v) for v in range(room + 1)] for u in range(room + 1)]
+    echelon = []  # (a place, a vector that is 1 there)
+
+    def cleared(vector, place, other):
+        c = vector[place]
+        return [(a - c * b) % p for a, b in zip(vector, other)] if c else vector
+
+    rest = columns[0]
+    for column in columns[1:]:
+        if not any(rest[:room]):
+            break
+        for place, other in echelon:
+            column = cleared(column, place, other)
+        place = next((j for j in range(room) if column[j]), None)
+        if place is not None:
+            scale = pow(column[place], p - 2, p)
+            echelon.append((place, [a * scale % p for a in column]))
+            rest = cleared(rest, *echelon[-1])
+    return None if any(rest[:room]) else rest[room:]
+
+
 # ---- The calls ---------------------------------------------------------------------------
 
 def basis(p, n, s, type_, series, out):
@@ -164,18 +200,17 @@ def approximant(p, n, type_, series, out):
 
 
 def pair(p, k, g, r, t):
-    """The approximant of (-1, g) of type (k - 1, N - k), order N: r in k words, t in N - k + 1."""
+    """The fraction r / t = g to order N in lowest terms with t(0) = 1: r in k words, t in N - k + 1."""
     order = len(g)
     test_modulus(p)
     refuse(3, order > 255)
     refuse(7, not 1 <= k <= order)
     refuse(4, len(r) != k or len(t) != order - k + 1)
     test_coefficients(p, g)
-    d = [k - 1, order - k]
-    rows, pivots = reduced_rows(p, 2, order, d, [[p - 1] + [0] * (order - 1), list(g)])
-    row = rows[least_row(pivots, d) - 1]
-    r[:] = row[0][:k]
-    t[:] = row[1][:order - k + 1]
+    found = lowest_denominator(p, k, g)
+    refuse(13, found is None)
+    r[:] = product(p, found, g, k)
+    t[:] = found
 
 
 def row_view(n, s, i, length):
@@ -448,6 +483,11 @@ WORKED = [  # name, p, s, type, series, rows, pivot degrees, shifted degrees, le
     ('C7', 7, 0, [0], [], ['1'], [0], [0], 1, 0),
 ]
 
+WORKED_PAIRS = [  # p = 7, k = 1: name, g; what the call says, and what r and t then are, which are lent full of 9
+    ('C8', [1, 1, 2], (None, [1], [1, 6, 6])),
+    ('C9', [0, 1], ('refused 13', [9], [9, 9])),
+]
+
 C1_TEXT = '''relations 7 2 3 type 0 2
 row 1 1 1 | 6 1 | 6 2
 row 2 2 0 | 6 | 6 1 1
@@ -466,10 +506,11 @@ def test_worked(check):
         check(name + ' shifted degrees', [e - b for e, b in zip(found, d)], shifted)
     out = [9]
     check('C7 approximant', (order_of([0]), approximant(7, 1, [0], [], out), out), (0, (1, 0), [1]))
-    for name, g, wanted in (('C8', [1, 1, 2], ([6], [6, 1, 1])), ('C9', [0, 1], ([0], [0, 1]))):
+    for name, g, wanted in WORKED_PAIRS:
         r, t = [9], [9] * len(g)
-        pair(7, 1, g, r, t)
-        check(name, (r, t), wanted)
+        check(name, (outcome(pair, 7, 1, g, r, t), r, t), wanted)
+    r, t = [9, 9], [9, 9, 9]
+    check('pair of the zero series', (outcome(pair, 7, 2, [0, 0, 0, 0], r, t), r, t), (None, [0, 0], [1, 0, 0]))
     check('C10', inverse(7, 3), 5)
     check('order of (127, 127)', order_of([127, 127]), 255)
     check('order of (128, 127)', order_of([128, 127]), 256)
@@ -482,6 +523,7 @@ def test_worked(check):
         check(f'modulus {p}', outcome(field, p), 'refused 1')
     check('inverse of zero', inverse(7, 0), None)
     check('pair of no terms', outcome(pair, 7, 0, [], [], []), 'refused 7')
+    check('pair, a coefficient before the fraction', outcome(pair, 7, 1, [0, 8], [9], [9, 9]), 'refused 6')
     check('checks of zeros', checks([0] * 126), (1, 126))
     check('checks, word 1 is 7', checks([0, 7] + [0] * 124), (8, 1001))
     check('checks, word 0 is 4294967295', checks([4294967295] + [0] * 125), (0, 0))
@@ -578,6 +620,44 @@ def test_brute_force(check):
             check(f'brute force count {p} {n} {s} {d} {f}', (sum(pivots), sum(pivots)), (shrunk, s - m))
 
 
+def polynomials(p, bound, words):
+    """All polynomials of degree below the bound, in so many words."""
+    return [a + (0,) * (words - bound) for a in itertools.product(range(p), repeat=bound)]
+
+
+def monic_divisors(p, words):
+    """For each polynomial of so many words its monic divisors that are no constants, by multiplying out."""
+    divisors = {a: set() for a in polynomials(p, words, words)}
+    for e in range(1, words):
+        for low, other in itertools.product(polynomials(p, e, e), polynomials(p, words - e, words - e)):
+            divisors[tuple(product(p, low + (1,), other, words))].add(low)
+    return divisors
+
+
+def multiples(p, k, order, r, t):
+    """All (q r, q t) with q(0) not zero that stay within the bounds of the pair."""
+    pairs = [[tuple(product(p, q, part, 2 * order)) for part in (r, t)] for q in polynomials(p, order, order) if q[0]]
+    return {(a[:order], b[:order]) for a, b in pairs if not any(a[k:]) and not any(b[order - k + 1:])}
+
+
+def test_brute_force_pairs(check):
+    """Every g and k of small orders, over every r and t within the bounds: there is a fraction exactly where the pair call is not refused,
+    the one that it gives is the only one with t(0) = 1 and without common factors, and all fractions are its multiples."""
+    for p, order in [(2, 1), (2, 2), (2, 3), (2, 4), (2, 5), (3, 1), (3, 2), (3, 3), (3, 4)]:
+        divisors = monic_divisors(p, order)
+        for k, g in itertools.product(range(1, order + 1), polynomials(p, order, order)):
+            name = f'brute force pair {p} {k} {g}'
+            fractions = {(r, t) for t in polynomials(p, order - k + 1, order) for r in polynomials(p, k, order)
+                         if t[0] and list(r) == product(p, t, g, order)}
+            r, t = [9] * k, [9] * (order - k + 1)
+            refused = outcome(pair, p, k, g, r, t) == 'refused 13'
+            check(name, refused, not fractions)
+            if not refused:
+                found = tuple(r + [0] * (order - k)), tuple(t + [0] * (k - 1))
+                check(name + ' lowest', [f for f in fractions if f[1][0] == 1 and not divisors[f[0]] & divisors[f[1]]], [found])
+                check(name + ' multiples', fractions, multiples(p, k, order, *found))
+
+
 def test_files(check):
     type_, series = [5] * 8, [5] * 2040
     data = layout(7, 2, 3, [0, 2], [6, 0, 0, 1, 1, 2])
@@ -605,6 +685,7 @@ def selftest():
     test_texts(check)
     test_text_jobs(check)
     test_brute_force(check)
+    test_brute_force_pairs(check)
     print(f'{passed} passed, {failed} failed')
     return failed != 0
 

@@ -95,9 +95,21 @@ fn found(answer: [u32; 2]) -> Found {
     Found { least: answer[0], count: answer[1] }
 }
 
-/// Writes a pair with r = t g to order N = `g.len()`, deg r below k and deg t at most N - k; t is not zero.
+/// Writes the fraction r / t in lowest terms whose series is g to order N = `g.len()`: r = t g to order N, deg r below k, deg t at most
+/// N - k, t(0) = 1, and only constants divide both r and t modulo p. There is at most one such pair; for g = 0 it is r = 0, t = 1.
 ///
-/// `r` has k words and `t` has N - k + 1. Refusals: 1, 3 for N, 7, 4, 6.
+/// `r` has k words and `t` has N - k + 1, unused places zero. Refusals: 1, 3 for N, 7, 4, 6, and last 13, which is given where no r and t
+/// of these degrees have t(0) not zero and r = t g to order N, and nowhere else.
+///
+/// ```
+/// use relations::{pair, Refusal};
+/// // Modulo 7 the series 1 + X + 2X^2 is 1 / (1 - X - X^2) to order 3.
+/// let (mut r, mut t) = ([0; 1], [0; 3]);
+/// assert_eq!(pair(7, 1, &[1, 1, 2], &mut r, &mut t), Ok(()));
+/// assert_eq!((r, t), ([1], [1, 6, 6]));
+/// // To order 2 the series X is no constant over a polynomial of degree at most 1.
+/// assert_eq!(pair(7, 1, &[0, 1], &mut r, &mut t[..2]), Err(Refusal::NoFraction));
+/// ```
 pub fn pair(p: u32, k: u32, g: &[u32], r: &mut [u32], t: &mut [u32]) -> Result<(), Refusal> {
     answered(raw::pair(p, k, g, r, t))
 }

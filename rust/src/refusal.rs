@@ -30,6 +30,8 @@ pub enum Refusal {
     BlockCount,
     /// 12: a spare payload word is not zero.
     SpareWord,
+    /// 13: no fraction exists.
+    NoFraction,
     /// The inverse of zero was asked for; it has no number.
     InverseOfZero,
 }
@@ -38,7 +40,7 @@ pub enum Refusal {
 const NO_INVERSE: u32 = 256;
 
 /// The numbered refusals in the order of their numbers, and their words.
-const NUMBERED: [(Refusal, &str); 12] = [
+const NUMBERED: [(Refusal, &str); 13] = [
     (Refusal::Modulus, "the modulus is below 2, above 2147483647 or composite"),
     (Refusal::SeriesCount, "the number of series is outside 1 to 8"),
     (Refusal::Order, "the order is above 255"),
@@ -51,10 +53,11 @@ const NUMBERED: [(Refusal, &str); 12] = [
     (Refusal::BlockCheck, "check A or B of a block is wrong"),
     (Refusal::BlockCount, "the block count differs from the header's"),
     (Refusal::SpareWord, "a spare payload word is not zero"),
+    (Refusal::NoFraction, "no fraction exists"),
 ];
 
 impl Refusal {
-    /// The refusal's number, 1 to 12; the inverse of zero has none.
+    /// The refusal's number, 1 to 13; the inverse of zero has none.
     pub fn number(self) -> Option<u32> {
         NUMBERED.iter().position(|&(refusal, _)| refusal == self).map(|at| at as u32 + 1)
     }

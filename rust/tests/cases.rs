@@ -39,10 +39,13 @@ fn worked_approximant_and_pairs() {
     assert_eq!(words, [1]);
     let (mut r, mut t) = ([UNTOUCHED; 1], [UNTOUCHED; 3]);
     assert_eq!(pair(7, 1, &[1, 1, 2], &mut r, &mut t), Ok(()));
-    assert_eq!((r, t), ([6], [6, 1, 1]));
+    assert_eq!((r, t), ([1], [1, 6, 6]));
     let (mut r, mut t) = ([UNTOUCHED; 1], [UNTOUCHED; 2]);
-    assert_eq!(pair(7, 1, &[0, 1], &mut r, &mut t), Ok(()));
-    assert_eq!((r, t), ([0], [0, 1]));
+    assert_eq!(pair(7, 1, &[0, 1], &mut r, &mut t), Err(Refusal::NoFraction));
+    assert_eq!((r, t), ([UNTOUCHED], [UNTOUCHED; 2]));
+    let (mut r, mut t) = ([UNTOUCHED; 2], [UNTOUCHED; 3]);
+    assert_eq!(pair(7, 2, &[0; 4], &mut r, &mut t), Ok(()));
+    assert_eq!((r, t), ([0; 2], [1, 0, 0]));
 }
 
 #[test]
@@ -99,6 +102,7 @@ fn approximant_and_pair_refusals() {
     assert_eq!(pair(7, 3, &[0, 9], &mut lent, &mut t), Err(Refusal::FractionSize));
     assert_eq!(pair(7, 1, &[0, 9], &mut lent, &mut t), Err(Refusal::Length));
     assert_eq!(pair(7, 1, &[0, 9], &mut lent[..1], &mut t), Err(Refusal::Coefficient));
+    assert_eq!(pair(11, 1, &[0, 9], &mut lent[..1], &mut t), Err(Refusal::NoFraction));
     assert!(lent.iter().chain(&t).all(|&w| w == UNTOUCHED));
 }
 
@@ -217,15 +221,15 @@ fn text_jobs() {
 
 #[test]
 fn refusals_in_words() {
-    let mut texts: Vec<String> = (1..=12).map(|k| Refusal::from_number(k).unwrap().to_string()).collect();
+    let mut texts: Vec<String> = (1..=13).map(|k| Refusal::from_number(k).unwrap().to_string()).collect();
     for (k, text) in texts.iter().enumerate() {
         assert!(text.starts_with(&format!("refused {}: ", k + 1)));
         assert_eq!(Refusal::from_number(k as u32 + 1).unwrap().number(), Some(k as u32 + 1));
     }
     texts.sort();
     texts.dedup();
-    assert_eq!(texts.len(), 12);
-    assert_eq!((Refusal::from_number(0), Refusal::from_number(13)), (None, None));
+    assert_eq!(texts.len(), 13);
+    assert_eq!((Refusal::from_number(0), Refusal::from_number(14)), (None, None));
     assert_eq!(Refusal::InverseOfZero.to_string(), "zero has no inverse");
     assert_eq!(Refusal::InverseOfZero.number(), None);
 }

@@ -8,7 +8,7 @@ use Rattle.field.specs.Calls.{MakeOutcome, AddOutcome, MultiplyOutcome, InvertO
 use Rattle.field.proofs.Refusal.{same-outcome}
 use Rattle.engine.specs.Basis.{BasisOutcome}
 use Rattle.engine.specs.Approximant.{ApproximantOutcome}
-use Rattle.engine.specs.Pair.{PairOutcome}
+use Rattle.pade.specs.Pair.{PairOutcome}
 use Rattle.jobfile.specs.Outcomes.{ReadOutcome, WriteOutcome}
 use Rattle.report.specs.Calls.{BasisTextOutcome, RefusalTextOutcome}
 use Rattle.jobreport.specs.Printed.{PrintOutcome}

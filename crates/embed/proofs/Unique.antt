@@ -12,13 +12,15 @@ use Rattle.field.specs.declared.InverseAnswer.{InverseAnswer}
 use Rattle.field.specs.Calls.{fieldSays, residueSays, inverseSays, MakeOutcome, ResidueOutcome, InvertOutcome}
 use Rattle.field.proofs.Unique.{make-unique, residue-unique, invert-unique}
 use Rattle.engine.specs.declared.BasisAnswer.{BasisAnswer}
-use Rattle.engine.specs.declared.PairAnswer.{PairAnswer}
-use Rattle.engine.specs.Answers.{basisSays, pairSays}
+use Rattle.engine.specs.Answers.{basisSays}
 use Rattle.engine.specs.Basis.{BasisOutcome}
 use Rattle.engine.specs.Approximant.{ApproximantOutcome}
-use Rattle.engine.specs.Pair.{PairOutcome}
-use Rattle.engine.proofs.Unique.{basis-unique, approximant-unique, pair-unique}
+use Rattle.engine.proofs.Unique.{basis-unique, approximant-unique}
 use Rattle.engine.proofs.View.{fits-decided}
+use Rattle.pade.specs.declared.PairAnswer.{PairAnswer}
+use Rattle.pade.specs.Answer.{pairSays}
+use Rattle.pade.specs.Pair.{PairOutcome}
+use Rattle.pade.proofs.Unique.{pair-unique}
 use Rattle.jobfile.specs.declared.JobAnswer.{JobAnswer}
 use Rattle.jobfile.specs.declared.WriteAnswer.{WriteAnswer}
 use Rattle.jobfile.specs.Answers.{jobSays, writeSays}

@@ -7,7 +7,7 @@ ghost use Rattle.field.specs.Calls.{residueSays, inverseSays, MakeOutcome, AddO
 ghost use Rattle.engine.specs.Answers.{basisSays};
 ghost use Rattle.engine.specs.Basis.{BasisOutcome};
 ghost use Rattle.engine.specs.Approximant.{ApproximantOutcome};
-ghost use Rattle.engine.specs.Pair.{PairOutcome};
+ghost use Rattle.pade.specs.Pair.{PairOutcome};
 ghost use Rattle.jobfile.specs.Answers.{jobSays, writeSays};
 ghost use Rattle.jobfile.specs.Outcomes.{ReadOutcome, WriteOutcome};
 ghost use Rattle.jobtext.specs.Job.{jobOfText};
@@ -20,7 +20,6 @@ ghost use Rattle.embed.specs.Lengths.{residueAnswerLength, countAnswerLe
 ghost use Rattle.embed.specs.Given.{Told, Given};
 ghost use Rattle.embed.specs.RowAt.{RowSaid};
 use engine::BasisAnswer;
-use engine::PairAnswer;
 use field::Field;
 use field::FieldAnswer;
 use field::InverseAnswer;
@@ -31,6 +30,7 @@ use jobfile::TYPE_WORDS;
 use jobfile::WriteAnswer;
 use jobtext::Parsed;
 use jobtext::Slip;
+use pade::PairAnswer;
 use report::TextAnswer;
 use sizes::JobSizes;
 
@@ -253,7 +253,7 @@ pub extern "C" fn relations_approximant(
 pub extern "C" fn relations_pair(p: u32, k: u32, g: &[u32], r: &mut [u32], t: &mut [u32]) -> u32
     ensures { λ j. ⌜ Told (λ said. PairOutcome p k (now (g .entry)) (now (r .entry)) (now (t .entry)) said (now (r .exit)) (now (t .exit))) j ⌝ }
 {
-    match engine::pair(p, k, g, r, t) {
+    match pade::pair(p, k, g, r, t) {
         PairAnswer::Written => 0,
         PairAnswer::Refused(j) => j,
     }

@@ -13,6 +13,7 @@ use lib.IntN.{pos}
 use lib.Signed.{_≤ℤ_}
 use Rattle.field.specs.Prime.{Prime}
 use Rattle.field.specs.Answer.{result}
+use Rattle.field.proofs.Refusal.{admitted}
 use Rattle.relation.specs.Vector.{Vect}
 use Rattle.relation.specs.Degree.{Degree}
 use Rattle.relation.specs.Relation.{Relation}
@@ -29,7 +30,7 @@ use Rattle.engine.specs.Answers.{basisSays}
 use Rattle.engine.specs.Sigma.{orderOf}
 use Rattle.engine.specs.Basis.{BasisAnswered, BasisOutcome}
 use Rattle.engine.specs.Approximant.{Approximated, ApproximantOutcome}
-use Rattle.engine.proofs.Admitted.{admitted, basis-sizes, approximant-sizes}
+use Rattle.engine.proofs.Admitted.{basis-sizes, approximant-sizes}
 
 -- what an admitted call gives, the basis call and the approximant call alike
 record Given (p n s : ℕ) (d F left : List ℕ) (r : BasisResult) : Type 0 where

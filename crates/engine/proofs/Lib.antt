@@ -2,8 +2,5 @@
 pub mod Admitted
 pub mod Sigma
 pub mod Buffers
-pub mod Series
-pub mod Fraction
 pub mod View
 pub mod Unique
-pub mod PairWork

@@ -1,24 +1,20 @@
 -- For each call, two outcomes that meet its contract for the same arguments are equal: result and buffers.
-use mathlib.Core.Path.{_≡_, refl, ap, sym, _∙_}
+use mathlib.Core.Path.{_≡_, ap, sym, _∙_}
 use mathlib.Core.Logic.{inl, inr}
 use mathlib.Core.List.{List}
 use Prim.Native.Nat.{ℕ, _<_}
 use lib.ListN.{length}
 use Rattle.field.specs.Refusal.{Order, NoTest, Outcome}
 use Rattle.field.specs.Answer.{Answer, refusal}
-use Rattle.field.proofs.Refusal.{same-outcome}
-use Rattle.relation.proofs.Pair.{pair-unique as pair-one}
-use Rattle.row.proofs.Rows.{list-ext}
+use Rattle.field.proofs.Refusal.{keep, same-outcome}
 use Rattle.solve.proofs.Found.{found-unique}
 use Rattle.engine.specs.declared.BasisAnswer.{BasisAnswer}
-use Rattle.engine.specs.declared.PairAnswer.{PairAnswer}
-use Rattle.engine.specs.Answers.{basisSays, pairSays}
+use Rattle.engine.specs.Answers.{basisSays}
 use Rattle.engine.specs.Basis.{BasisAnswered, BasisOutcome}
 use Rattle.engine.specs.Approximant.{ApproximantOutcome}
-use Rattle.engine.specs.Pair.{PairOutcome}
 use Rattle.engine.specs.RowView.{RowViewed}
 use Rattle.engine.proofs.View.{fits-decided}
-use Rattle.engine.proofs.Admitted.{keep, basis-sizes, approximant-sizes}
+use Rattle.engine.proofs.Admitted.{basis-sizes, approximant-sizes}
 
 -- what the answers say tells them apart
 basis-told : (r r′ : BasisAnswer) → basisSays r ≡ basisSays r′ → r ≡ r′
@@ -29,12 +25,6 @@ basis-told (BasisAnswer.Found r) (BasisAnswer.Found r′) e =
 basis-told (BasisAnswer.Found r) (BasisAnswer.Refused k) e = cc
 basis-told (BasisAnswer.Refused k) (BasisAnswer.Found r) e = cc
 basis-told (BasisAnswer.Refused k) (BasisAnswer.Refused k′) e = cc
-
-pair-told : (r r′ : PairAnswer) → pairSays r ≡ pairSays r′ → r ≡ r′
-pair-told PairAnswer.Written PairAnswer.Written e = refl
-pair-told PairAnswer.Written (PairAnswer.Refused k) e = cc
-pair-told (PairAnswer.Refused k) PairAnswer.Written e = cc
-pair-told (PairAnswer.Refused k) (PairAnswer.Refused k′) e = cc
 
 -- the basis of some series is one list of words, with one least row and one count
 answered-same : {p n s : ℕ} {d F xs ys : List ℕ} {said said′ : Answer} → 0 < n
@@ -68,22 +58,6 @@ approximant-unique p n d F lent r r′ left left′ h h′ =
     let q = outcomes-same _ (basisSays r) (basisSays r′) lent left left′ _ _ (λ t a b.
     answered-same (approximant-sizes p n d F (length lent) t .n-from) (a .answered) (b .answered)) h h′ in
     (basis-told r r′ (q .0), q .1)
-
-pub pair-unique : (p k : ℕ) (g r t : List ℕ) (a a′ : PairAnswer) (r₁ t₁ r₂ t₂ : List ℕ)
-    → PairOutcome p k g r t (pairSays a) r₁ t₁ → PairOutcome p k g r t (pairSays a′) r₂ t₂ → (a ≡ a′) × (r₁ ≡ r₂) × (t₁ ≡ t₂)
-unfolding PairOutcome
-pair-unique p k g r t a a′ r₁ t₁ r₂ t₂ h h′ =
-    elim (same-outcome _ _ _ _ _ h h′) [
-      | inl w ↦
-          let u = w .0 .1 in
-          let v = w .1 .1 in
-          let same = pair-one (u .pair) (v .pair) in (
-            pair-told a a′ (w .0 .0 ∙ sym (w .1 .0)),
-            list-ext r₁ r₂ (u .r-words ∙ sym (v .r-words)) (λ x. same x .0),
-            list-ext t₁ t₂ (u .t-words ∙ sym (v .t-words)) (λ x. same x .1),
-          )
-      | inr w ↦ (pair-told a a′ (w .1 .0 ∙ sym (w .2 .0)), w .1 .1 ∙ sym (w .2 .1), w .1 .2 ∙ sym (w .2 .2))
-    ]
 
 pub view-unique : (basis : List ℕ) (n s i : ℕ) (v v′ : List ℕ) → RowViewed basis n s i v → RowViewed basis n s i v′ → v ≡ v′
 view-unique basis n s i v v′ a b = elim (fits-decided (length basis) n s i) [

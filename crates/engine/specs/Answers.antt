@@ -2,14 +2,8 @@
 use mathlib.Core.List.{[], _∷_}
 use Rattle.field.specs.Answer.{Answer, result, refusal}
 use Rattle.engine.specs.declared.BasisAnswer.{BasisAnswer}
-use Rattle.engine.specs.declared.PairAnswer.{PairAnswer}
 
 -- the least row's number and the count of shrinking orders, or a refusal
 abbrev pub basisSays : BasisAnswer → Answer
 basisSays (BasisAnswer.Found r) = result (r .least ∷ r .count ∷ [])
 basisSays (BasisAnswer.Refused k) = refusal k
-
--- the pair's result carries no number
-abbrev pub pairSays : PairAnswer → Answer
-pairSays PairAnswer.Written = result []
-pairSays (PairAnswer.Refused k) = refusal k

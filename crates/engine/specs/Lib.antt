@@ -2,8 +2,6 @@
 pub mod Sigma
 pub mod Answers
 pub mod Orders
-pub mod PairSizes
 pub mod Basis
 pub mod Approximant
-pub mod Pair
 pub mod RowView

@@ -1,10 +1,9 @@
--- The refusals of each call, in document 01's order: each number beside its test. A lent basis, r and t stand here by their lengths.
+-- The refusals of each call, in document 01's order: each number beside its test. A lent basis stands here by its length.
 use mathlib.Core.Logic.{_⊎_, _≢_}
 use mathlib.Core.List.{List, _∷_, _++_}
-use Prim.Native.Nat.{ℕ, _+_, _*_, _-_, _<_}
+use Prim.Native.Nat.{ℕ, _*_, _<_}
 use lib.ListN.{length}
 use Rattle.field.specs.Refusal.{Order, _when_}
-use Rattle.field.specs.Calls.{modulusOrder}
 use Rattle.sizes.specs.Lengths.{basisLength}
 use Rattle.sizes.specs.Orders.{startOrder, sizesOrder, entriesOrder, coefficientsOrder, jobOrder}
 use Rattle.engine.specs.Sigma.{orderOf}
@@ -31,15 +30,3 @@ seriesOrder p n s series basis =
 -- "Approximant: 1, 2, 4 for the type, 5, 3 for σ, 4 for the rest, 6."
 abbrev pub approximantOrder : ℕ → ℕ → List ℕ → List ℕ → ℕ → Order
 approximantOrder p n d series basis = startOrder p n ++ (typeOrder n d ++ seriesOrder p n (orderOf n d) series basis)
-
--- 3 for N, the length of g, 7, 4, 6
-abbrev pub pairRestOrder : ℕ → ℕ → List ℕ → ℕ → ℕ → Order
-pairRestOrder p k g r t =
-    (3 when (255 < length g))
-    ∷ (7 when ((k < 1) ⊎ (length g < k)))
-    ∷ (4 when ((r ≢ k) ⊎ (t ≢ length g - k + 1)))
-    ∷ coefficientsOrder p g
-
--- "Pair: 1, 3 for N, 7, 4, 6."
-abbrev pub pairOrder : ℕ → ℕ → List ℕ → ℕ → ℕ → Order
-pairOrder p k g r t = modulusOrder p ++ pairRestOrder p k g r t

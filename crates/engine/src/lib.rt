@@ -1,4 +1,4 @@
-// The engine's calls: minimal basis, approximant, Padé pair and row view, on lent words. Each tests every argument and has no premise.
+// The engine's calls: minimal basis, approximant and row view, on lent words. Each tests every argument and has no premise.
 ghost use mathlib.Core.Path.{_≡_};
 ghost use mathlib.Core.Bool.{true};
 ghost use mathlib.Core.Logic.{_↔_};
@@ -6,20 +6,14 @@ ghost use mathlib.Core.List.{_++_};
 ghost use Prim.Native.Nat.{_+_, _*_, _<_, _≤_};
 ghost use lib.ListN.{length, take, drop};
 ghost use Rattle.field.specs.Calls.{Tests};
-ghost use Rattle.relation.specs.Pair.{pairSeries};
-ghost use Rattle.words.specs.Polynomial.{poly};
-ghost use Rattle.row.specs.View.{vector};
 ghost use Rattle.words.specs.Some.{Some};
 ghost use Rattle.sizes.specs.Entry.{EntryOutside};
-ghost use Rattle.sizes.specs.Lengths.{basisLength};
 ghost use Rattle.solve.specs.Sizes.{Sizes};
 ghost use Rattle.engine.specs.Sigma.{orderOf};
-ghost use Rattle.engine.specs.Orders.{buffersOrder, basisOrder, typeOrder, seriesOrder, approximantOrder, pairRestOrder, pairOrder};
-ghost use Rattle.engine.specs.PairSizes.{PairSizes};
-ghost use Rattle.engine.specs.Answers.{basisSays, pairSays};
+ghost use Rattle.engine.specs.Orders.{buffersOrder, basisOrder, typeOrder, seriesOrder, approximantOrder};
+ghost use Rattle.engine.specs.Answers.{basisSays};
 ghost use Rattle.engine.specs.Basis.{BasisAnswered, BasisOutcome};
 ghost use Rattle.engine.specs.Approximant.{ApproximantOutcome};
-ghost use Rattle.engine.specs.Pair.{PairWritten, PairOutcome};
 ghost use Rattle.engine.specs.RowView.{ViewFits, RowViewed};
 use field::Field;
 use field::Tested;
@@ -32,11 +26,6 @@ pub struct BasisResult {
 
 pub enum BasisAnswer {
     Found(BasisResult),
-    Refused(u32),
-}
-
-pub enum PairAnswer {
-    Written,
     Refused(u32),
 }
 
@@ -124,42 +113,6 @@ fn test_approximant(p: u32, n: u32, d: &[u32], series: &[u32], basis: usize) -> 
     }
 }
 
-fn test_pair_rest(p: u32, k: u32, g: &[u32], r: usize, t: usize) -> Tested
-    ensures { λ a. ⌜ Tests (pairRestOrder p k (now (g .entry)) r t) a ⌝ }
-{
-    let order = g.len();
-    let first = k as usize;
-    if order > 255 {
-        return Tested::Refused(3);
-    }
-    if first < 1 {
-        return Tested::Refused(7);
-    }
-    if order < first {
-        return Tested::Refused(7);
-    }
-    if r != first {
-        return Tested::Refused(4);
-    }
-    if t != order - first + 1 {
-        return Tested::Refused(4);
-    }
-    if words::any_from(g, p) {
-        return Tested::Refused(6);
-    }
-    Tested::Passed
-}
-
-fn test_pair(p: u32, k: u32, g: &[u32], r: usize, t: usize) -> Tested
-    ensures { λ a. ⌜ Tests (pairOrder p k (now (g .entry)) r t) a ⌝ }
-{
-    if Field::admits(p) {
-        test_pair_rest(p, k, g, r, t)
-    } else {
-        Tested::Refused(1)
-    }
-}
-
 fn view_fits(words: usize, n: u32, s: u32, i: u32) -> bool
     ensures { λ r. ⌜ (r ≡ true) ↔ ViewFits words n s i ⌝ }
 {
@@ -235,74 +188,5 @@ pub fn approximant(p: u32, n: u32, d: &[u32], series: &[u32], out: &mut [u32]) -
             )
         }
         Tested::Refused(k) => BasisAnswer::Refused(k),
-    }
-}
-
-// The series -1 and g, end to end.
-fn pair_series(f: Field, g: &[u32], series: &mut [u32])
-    requires { ⌜ (1 < f .modulus) × (1 ≤ length (now g)) × (length (now g) ≤ 255) × (length (now series) ≡ 2 * length (now g)) ⌝ }
-    ensures { λ _. ⌜ (length (now (series .exit)) ≡ length (now (series .entry))) × (vector (length (now (g .entry))) (now (series .exit)) ≡ pairSeries (f .modulus) (poly (now (g .entry)))) ⌝ }
-{
-    let order = g.len();
-    let end = order + order;
-    row::fill_zero(series);
-    series[0] = f.modulus - 1;
-    words::copy(g, &mut series[order..end]);
-}
-
-// The words from start on, as many as are lent.
-fn copy_from(words: &[u32], start: usize, into: &mut [u32])
-    requires { ⌜ start + length (now into) ≤ length (now words) ⌝ }
-    ensures { λ _. ⌜ now (into .exit) ≡ take (length (now (into .entry))) (drop start (now (words .entry))) ⌝ }
-{
-    let end = start + into.len();
-    words::copy(&words[start..end], into);
-}
-
-// The pair, worked out in lent scratch.
-fn pair_work(
-    f: Field,
-    k: usize,
-    g: &[u32],
-    series: &mut [u32],
-    basis: &mut [u32],
-    r: &mut [u32],
-    t: &mut [u32],
-)
-    requires { ⌜ PairSizes (f .modulus) k (now g) (length (now r)) (length (now t)) ⌝ }
-    requires { ⌜ (length (now series) ≡ 2 * length (now g)) × (length (now basis) ≡ basisLength 2 (length (now g))) ⌝ }
-    ensures { λ _. ⌜ PairWritten (f .modulus) k (now (g .entry)) (now (r .exit)) (now (t .exit)) ⌝ }
-{
-    let order = g.len();
-    let width = order + 1;
-    pair_series(f, g, series);
-    let d = [(k - 1) as u32, (order - k) as u32];
-    let w = solve::solve(f, 2, order, &d, series, basis);
-    let start = w.least * (2 * width);
-    copy_from(basis, start, r);
-    copy_from(basis, start + width, t);
-}
-
-fn write_pair(f: Field, k: usize, g: &[u32], r: &mut [u32], t: &mut [u32])
-    requires { ⌜ PairSizes (f .modulus) k (now g) (length (now r)) (length (now t)) ⌝ }
-    ensures { λ _. ⌜ PairWritten (f .modulus) k (now (g .entry)) (now (r .exit)) (now (t .exit)) ⌝ }
-{
-    let order = g.len();
-    let mut series = [0u32; 510];
-    let mut basis = [0u32; 1024];
-    let words = 2 * order;
-    let size = 2 * (2 * (order + 1));
-    pair_work(f, k, g, &mut series[..words], &mut basis[..size], r, t);
-}
-
-pub fn pair(p: u32, k: u32, g: &[u32], r: &mut [u32], t: &mut [u32]) -> PairAnswer
-    ensures { λ a. ⌜ PairOutcome p k (now (g .entry)) (now (r .entry)) (now (t .entry)) (pairSays a) (now (r .exit)) (now (t .exit)) ⌝ }
-{
-    match test_pair(p, k, g, r.len(), t.len()) {
-        Tested::Passed => {
-            write_pair(Field { modulus: p }, k as usize, g, r, t);
-            PairAnswer::Written
-        }
-        Tested::Refused(j) => PairAnswer::Refused(j),
     }
 }

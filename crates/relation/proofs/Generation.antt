@@ -1,5 +1,6 @@
 -- Every member of V_s is a polynomial combination of the rows of a minimal basis, in exactly one way.
 --   generated, combination-vector, combination-vanishes   V_s is what the rows generate
+--   generated-by-row                                      members that only row i can reach are multiples of it
 --   unique-combination                                    a vector has one combination
 use mathlib.Core.Path.{_≡_, refl, ap, sym, _∙_, fun-ext, subst}
 use mathlib.Core.Logic.{_≢_}
@@ -18,10 +19,10 @@ use Rattle.relation.proofs.Sum.{sum-ext, sum-differ}
 use Rattle.relation.proofs.Product.{dot-zero}
 use Rattle.relation.specs.Operations.{addMultiple, unit}
 use Rattle.relation.proofs.Vector.{timesXPower, zeroVector, vec-zero, vec-unit, vec-addMultiple, vec-timesXPower, dot-addMultiple, dot-timesXPower, timesXPower-entry, vanishes-zero, vanishes-term}
-use Rattle.relation.specs.Weight.{weight, LeadsAt}
+use Rattle.relation.specs.Weight.{weight, BelowWeight, LeadsAt}
 use Rattle.relation.proofs.Weight.{weight-add, weight-inj, vec-below}
 use Rattle.relation.specs.ReducedBasis.{WeightBasis}
-use Rattle.relation.proofs.Basis.{reduction-all}
+use Rattle.relation.proofs.Basis.{reduction, reduction-all}
 use Rattle.relation.proofs.Start.{start-basis}
 
 combination-zero : (p n : ℕ) (Q : ℕ → Vect) (i k : ℕ) → combination p n zeroVector Q i k ≡ 0
@@ -35,16 +36,31 @@ combination-step p n Q l t c a i k hl =
     dot-addMultiple p n c (timesXPower t (unit l)) a (λ l. Q l i) k
     ∙ rw (dot-timesXPower n l t (λ l. Q l i) k hl, timesXPower-entry t (λ l. Q l i) (Q l) l i (λ k. refl) k) (sym (mod-add-mod _ p _))
 
-pub generated : {p n : ℕ} {b : ℕ → ℕ} {F : Vect} {s : ℕ} {Q : ℕ → Vect} {e : ℕ → ℕ} → Prime p → WeightBasis p n b F s Q e
-    → (P : Vect) → IsVec p n P → VanishesTo p n F s P → Combination p n Q P
+combination-none : {p n : ℕ} (Q : ℕ → Vect) → 0 < p → Combination p n Q zeroVector
+combination-none {p} {n} Q hp = record { by = zeroVector; vector = vec-zero p n hp; sum = λ i k. sym (combination-zero p n Q i k) }
+
+-- a multiple of X^t * row l may be added
+combination-add : {p n : ℕ} (Q : ℕ → Vect) (l t c : ℕ) (R : Vect) → 1 < p → l < n → Combination p n Q R → Combination p n Q (addMultiple p c (timesXPower t (Q l)) R)
 unfolding addMultiple
-generated {p} {n} {Q} pr wb = reduction-all pr wb (λ P. Combination p n Q P)
-    (record { by = zeroVector; vector = vec-zero p n (omega arith); sum = λ i k. sym (combination-zero p n Q i k) })
-    (λ l t c R hl vR mR m. record {
-      by = addMultiple p c (timesXPower t (unit l)) (m .by);
-      vector = vec-addMultiple p n c (timesXPower t (unit l)) (m .by) (omega arith) (vec-timesXPower p n t (unit l) (omega arith) (vec-unit p n l (pr .above-one) hl)) (m .vector);
-      sum = λ i k. rw (m .sum i k) (sym (combination-step p n Q l t c (m .by) i k hl));
-    })
+combination-add {p} {n} Q l t c R hp hl m = record {
+  by = addMultiple p c (timesXPower t (unit l)) (m .by);
+  vector = vec-addMultiple p n c (timesXPower t (unit l)) (m .by) (omega arith) (vec-timesXPower p n t (unit l) (omega arith) (vec-unit p n l hp hl)) (m .vector);
+  sum = λ i k. rw (m .sum i k) (sym (combination-step p n Q l t c (m .by) i k hl));
+}
+
+module _ {p n : ℕ} {b : ℕ → ℕ} {F : Vect} {s : ℕ} {Q : ℕ → Vect} {e : ℕ → ℕ} (pr : Prime p) (wb : WeightBasis p n b F s Q e) where
+  pub generated : (P : Vect) → IsVec p n P → VanishesTo p n F s P → Combination p n Q P
+  generated = reduction-all pr wb (λ P. Combination p n Q P) (combination-none Q (omega arith))
+      (λ l t c R hl vR mR m. combination-add Q l t c R (pr .above-one) hl m)
+
+  -- where row i alone leads below W, the members below W are multiples of row i
+  pub generated-by-row : (i W : ℕ) → ((l : ℕ) → l < n → weight n b l (e l) < W → l ≡ i)
+      → (P : Vect) → IsVec p n P → VanishesTo p n F s P → BelowWeight n b W P → Combination p 1 (λ l. Q i) P
+  generated-by-row i W only = reduction pr wb (λ P. Combination p 1 (λ l. Q i) P) W (combination-none (λ l. Q i) (omega arith))
+      (λ l t c R hl g vR mR m.
+      let q : l ≡ i = only l hl (omega (arith, weight-add n b l (e l) t)) in
+      rw q (combination-add (λ l. Q i) 0 t c R (pr .above-one) (omega arith) m))
+      W (omega arith)
 
 -- what holds of 0, and goes over to a sum with a multiple of X^t * row l, holds of every combination: the unit vectors generate the factors
 combination-closed : {p n : ℕ} {Q : ℕ → Vect} → Prime p → (M : Vect → Type 0) → M zeroVector

@@ -9,11 +9,11 @@ use Rattle.relation.specs.Product.{conv, dot}
 use Rattle.relation.specs.Vector.{Vect}
 use Rattle.relation.proofs.Sum.{sum-add, sum-scale, sum-cong, sum-head, sum-ext, sum-all-zero, sum-zero, sum-cut}
 
-conv-add : (a a′ b : ℕ → ℕ) (k : ℕ) → conv (λ t. a t + a′ t) b k ≡ conv a b k + conv a′ b k
+pub conv-add : (a a′ b : ℕ → ℕ) (k : ℕ) → conv (λ t. a t + a′ t) b k ≡ conv a b k + conv a′ b k
 unfolding conv
 conv-add a a′ b k = simp (add-mul, sum-add)
 
-conv-scale : (c : ℕ) (a b : ℕ → ℕ) (k : ℕ) → conv (λ t. c * a t) b k ≡ c * conv a b k
+pub conv-scale : (c : ℕ) (a b : ℕ → ℕ) (k : ℕ) → conv (λ t. c * a t) b k ≡ c * conv a b k
 unfolding conv
 conv-scale c a b k = simp (mul-assoc, sum-scale)
 
@@ -40,9 +40,13 @@ unfolding conv
 conv-shift a b k z = sum-head (suc k) _ ∙ rw (z, zero-mul, zero-add) (sum-ext (suc k) _ _ (λ t ht. rw suc-sub-suc))
 
 -- modulo p, each factor may be taken modulo p
+pub conv-mod : (p : ℕ) (a f : ℕ → ℕ) (k : ℕ) → conv (λ t. a t % p) f k % p ≡ conv a f k % p
+unfolding conv
+conv-mod p a f k = sum-cong p (suc k) _ _ (λ t ht. mod-mul-left p (a t) (f (k - t)))
+
 pub dot-mod : (p n : ℕ) (P F : Vect) (k : ℕ) → dot n (λ i t. P i t % p) F k % p ≡ dot n P F k % p
-unfolding dot conv
-dot-mod p n P F k = sum-cong p n _ _ (λ i hi. sum-cong p (suc k) _ _ (λ t ht. mod-mul-left p (P i t) (F i (k - t))))
+unfolding dot
+dot-mod p n P F k = sum-cong p n _ _ (λ i hi. conv-mod p (P i) (F i) k)
 
 -- where all series vanish as far as k, so does each product
 pub dot-vanish : (p n : ℕ) (F P : Vect) (k : ℕ) → ((t : ℕ) → t ≤ k → (i : ℕ) → i < n → F i t % p ≡ 0) → dot n P F k % p ≡ 0

@@ -1,18 +1,20 @@
 -- Every starred case holds: one test, computed over the whole table, that shows the definitions.
 --   primeTest, vectorTest, leadTest, zerosTest   prime; vector; leading position; common leading zeros
---   minimalTest, answerTest, caseTest            a minimal basis, by the criterion; an answer; a case
+--   minimalTest, answerTest                      a minimal basis, by the criterion; an answer
+--   pairOfTest, caseTest                         the pair of a least row; a case
 --   starred-hold                                 the statement
 -- And three answers that are wrong or not reduced.
-use mathlib.Core.Path.{_≡_, refl}
+use mathlib.Core.Path.{_≡_, refl, sym, fun-ext}
 use mathlib.Core.Logic.{_≢_, _⊎_, inl, inr}
-use mathlib.Core.List.{List, [], _∷_}
+use mathlib.Core.List.{List, [], _∷_, map}
 use Prim.Native.Nat.{ℕ, zero, suc, _+_, _*_, _-_, _%_, _≤_, _<_}
-use native.Mathlib.Nat.{mul-mod-right, mul-zero, zero-mul, le-mul-of-pos-right}
+use native.Mathlib.Nat.{mul-mod-right, mul-zero, zero-mul, zero-mod, le-mul-of-pos-right}
 use native.Mathlib.Decide.{ℕ-discrete, decLt}
 use native.Mathlib.Omega.{arith}
 use lib.IntN.{ℤ, pos}
-use lib.ListN.{length, getD, List·getD-eq-default}
+use lib.ListN.{length, getD, List·getD-eq-default, List·getD-map}
 use Rattle.field.specs.Prime.{Prime}
+use Rattle.field.specs.Inverse.{Inverse}
 use Rattle.words.specs.Polynomial.{poly}
 use Rattle.sizes.specs.Entry.{typeOf}
 use Rattle.relation.specs.Sum.{sumTo}
@@ -24,8 +26,10 @@ use Rattle.relation.specs.MinimalBasis.{MinimalBasis}
 use Rattle.relation.specs.Reduced.{Reduced}
 use Rattle.relation.specs.Sigma.{sumℤ, sigmaOf}
 use Rattle.relation.specs.Approximant.{Approximant}
+use Rattle.relation.specs.Fraction.{LowestFraction}
+use Rattle.relation.specs.Operations.{scaled}
 use Rattle.relation.specs.Pair.{pairSeries, pairType, Pair}
-use Rattle.relation.specs.Starred.{listed, listedRows, StarredAnswer, Right, Case, basis, approximant, pair, inverse, Holds, AllHold, starred, c1, c1-answer}
+use Rattle.relation.specs.Starred.{listed, listedRows, StarredAnswer, Right, Case, basis, approximant, pair, noFraction, inverse, Holds, AllHold, starred, c1, c1-answer}
 use Rattle.relation.proofs.Test.{Test, passed, from, equalList, equal, atMost, below, nonzero, equalℤ, both, either, every, some}
 use Rattle.relation.proofs.Vector.{zeroVector}
 use Rattle.relation.specs.Weight.{weight, LeadsAt, less}
@@ -34,6 +38,8 @@ use Rattle.relation.specs.ReducedBasis.{WeightBasis, ReducedAt}
 use Rattle.relation.proofs.Existence.{criterion}
 use Rattle.relation.proofs.Bridge.{basis→minimal, basis→reduced, basis→pivot, basis→degree, basis→least}
 use Rattle.relation.proofs.Shrink.{basis→count}
+use Rattle.relation.proofs.Pair.{pair-order}
+use Rattle.relation.proofs.Fraction.{no-fraction-at-zero, scaled-pair-is-lowest}
 
 -- p is above 1, and no number from 2 to p - 1 divides it
 prime-by : (p : ℕ) → 1 < p → ((d : ℕ) → d < p → (d ≤ 1) ⊎ (p % d ≢ 0)) → Prime p
@@ -199,21 +205,52 @@ answerTest p n F s d a = from (both (minimalTest p n F s d a) (restTest p n d s 
 approximant-by : {p n : ℕ} {F : Vect} {s : ℕ} {d : ℕ → ℤ} {a : StarredAnswer} → pos s ≡ sigmaOf n d → (r : Right p n F s d a) → Approximant p n F d s (listedRows (a .rows)) (r .least .0)
 approximant-by q r = record { order = q; basis = r .basis; reduced = r .reduced; least = r .least .2 }
 
-pair-by : (p k : ℕ) (g r t : List ℕ) (a : StarredAnswer) → pos (length g) ≡ sigmaOf 2 (pairType k (length g))
-    → Right p 2 (pairSeries p (poly g)) (length g) (pairType k (length g)) a
-    → getD (getD (a .rows) (a .least - 1) []) 0 [] ≡ r → getD (getD (a .rows) (a .least - 1) []) 1 [] ≡ t
-    → Prime p × Pair p k (length g) (poly g) (poly r) (poly t)
-pair-by p k g r t a q h er et =
-    let is : a .least - 1 ≡ h .least .0 = omega (arith, h .least .1) in (
-      h .prime,
-      record {
+-- entry j of the least row
+abbrev leastEntry : StarredAnswer → ℕ → List ℕ
+leastEntry a j = getD (getD (a .rows) (a .least - 1) []) j []
+
+-- the two entries of the least row are the pair that fractions are read from
+record PairOf (p k : ℕ) (g : List ℕ) (a : StarredAnswer) : Type 0 where
+  prime : Prime p
+  one≤k : 1 ≤ k
+  k≤N : k ≤ length g
+  entries : Pair p k (length g) (poly g) (poly (leastEntry a 0)) (poly (leastEntry a 1))
+
+pair-of : {p k : ℕ} {g : List ℕ} {a : StarredAnswer} → 1 ≤ k → k ≤ length g
+    → Right p 2 (pairSeries p (poly g)) (length g) (pairType k (length g)) a → PairOf p k g a
+pair-of {p} {k} {g} {a} one≤k k≤N h =
+    let is : a .least - 1 ≡ h .least .0 = omega (arith, h .least .1) in
+    record {
+      prime = h .prime;
+      one≤k = one≤k;
+      k≤N = k≤N;
+      entries = record {
         rows = listedRows (a .rows);
         row = h .least .0;
-        approximant = approximant-by q h;
-        first = λ x. rw (← er, is);
-        second = λ x. rw (← et, is);
-      },
-    )
+        approximant = approximant-by (pair-order k (length g) one≤k k≤N) h;
+        first = λ x. rw is;
+        second = λ x. rw is;
+      };
+    }
+
+abbrev pairOfTest : (p k : ℕ) (g : List ℕ) (a : StarredAnswer) → Test (PairOf p k g a)
+pairOfTest p k g a = from
+    (both (atMost 1 k) (both (atMost k (length g)) (answerTest p 2 (pairSeries p (poly g)) (length g) (pairType k (length g)) a)))
+    (λ t. pair-of (t .0) (t .1 .0) (t .1 .1))
+
+-- each coefficient times h
+abbrev scaledList : ℕ → ℕ → List ℕ → List ℕ
+scaledList p h l = map (λ (c : ℕ). (h * c) % p) l
+
+poly-scaled : (p h : ℕ) (l : List ℕ) → scaled p h (poly l) ≡ poly (scaledList p h l)
+unfolding poly
+poly-scaled p h l =
+    let q : (h * 0) % p ≡ 0 = rw mul-zero (zero-mod p) in
+    fun-ext λ x. sym (rw q at (List·getD-map (λ (c : ℕ). (h * c) % p) l x 0))
+
+lowest-by : {p k : ℕ} {g : List ℕ} {a : StarredAnswer} (h : ℕ) → PairOf p k g a → Inverse p (poly (leastEntry a 1) 0) h
+    → LowestFraction p k (length g) (poly g) (poly (scaledList p h (leastEntry a 0))) (poly (scaledList p h (leastEntry a 1)))
+lowest-by {p} {k} {g} {a} h l i = rw (poly-scaled p h (leastEntry a 0), poly-scaled p h (leastEntry a 1)) at (scaled-pair-is-lowest (l .prime) (l .one≤k) (l .k≤N) (l .entries) h i)
 
 caseTest : (c : Case) → Test (Holds c)
 unfolding Holds
@@ -222,10 +259,11 @@ caseTest (approximant j a) = from
     (both (equalℤ (pos (j .s)) (sigmaOf (j .n) (typeOf (j .type)))) (answerTest (j .p) (j .n) (listed (j .series)) (j .s) (typeOf (j .type)) a))
     (λ t. (t .1, approximant-by (t .0) (t .1)))
 caseTest (pair p k g r t a) = from
-    (both (equalℤ (pos (length g)) (sigmaOf 2 (pairType k (length g))))
-    (both (answerTest p 2 (pairSeries p (poly g)) (length g) (pairType k (length g)) a)
-    (both (equalList (getD (getD (a .rows) (a .least - 1) []) 0 []) r) (equalList (getD (getD (a .rows) (a .least - 1) []) 1 []) t))))
-    (λ u. pair-by p k g r t a (u .0) (u .1 .0) (u .1 .1 .0) (u .1 .1 .1))
+    (both (pairOfTest p k g a)
+    (some p (λ h. both (equal ((poly (leastEntry a 1) 0 * h) % p) 1) (both (equalList (scaledList p h (leastEntry a 0)) r) (equalList (scaledList p h (leastEntry a 1)) t)))))
+    (λ u. (u .0 .prime, rw (u .1 .2 .1 .0, u .1 .2 .1 .1) at (lowest-by (u .1 .0) (u .0) (record { below = u .1 .1; product = u .1 .2 .0 }))))
+caseTest (noFraction p k g a) = from (both (pairOfTest p k g a) (equal (poly (leastEntry a 1) 0) 0))
+    (λ u. (u .0 .prime, no-fraction-at-zero (u .0 .prime) (u .0 .one≤k) (u .0 .k≤N) (u .0 .entries) (u .1)))
 caseTest (inverse p a b) = from (both (primeTest p) (both (below b p) (equal ((a * b) % p) 1)))
     (λ t. (t .0, record { below = t .1 .0; product = t .1 .1 }))
 

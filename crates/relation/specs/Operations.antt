@@ -1,9 +1,13 @@
--- What rows are made of: multiples that are added, X times a row, unit rows. Contracts of the operations on words cite them.
+-- What rows are made of: multiples, also added ones, X times a row, unit rows. Contracts of the operations on words cite them.
 use Prim.Native.Nat.{ℕ, zero, suc, _+_, _*_, _%_}
 use native.Mathlib.Decide.{ℕ-discrete}
 use Rattle.relation.specs.Sum.{sumTo}
 use Rattle.relation.specs.Vector.{Vect}
 use Rattle.relation.specs.Pick.{pick}
+
+-- h * f modulo p
+abbrev pub scaled : ℕ → ℕ → (ℕ → ℕ) → ℕ → ℕ
+scaled p h f x = (h * f x) % p
 
 -- P + c * S
 unfoldable pub addMultiple : ℕ → ℕ → Vect → Vect → Vect

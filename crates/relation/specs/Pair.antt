@@ -1,5 +1,4 @@
--- The Padé pair of k and the N coefficients of g: r and t are the two entries of the approximant of (-1, g)
--- of type (k - 1, N - k), order N.
+-- The two entries of the approximant of (-1, g), of type (k - 1, N - k) and order N: what the pair call reads its fraction from.
 use mathlib.Core.Path.{_≡_}
 use Prim.Native.Nat.{ℕ, zero, suc, _-_}
 use lib.IntN.{ℤ, pos, _-ℤ_}

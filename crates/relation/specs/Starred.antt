@@ -1,4 +1,4 @@
--- The starred cases C1 to C10 of document 01, as one table in the terms of the definitions.
+-- The starred cases C1 to C10 of document 01, as one table in the terms of the definitions; C8 is in lowest terms, and C9 has no fraction.
 -- Polynomials are lists, low coefficients first. Rows are counted from 1 here, as in document 01.
 use mathlib.Core.Path.{_≡_}
 use mathlib.Core.List.{List, [], _∷_}
@@ -16,7 +16,7 @@ use Rattle.relation.specs.Pivot.{Pivot}
 use Rattle.relation.specs.Reduced.{Reduced}
 use Rattle.relation.specs.Shrink.{ShrinkCount}
 use Rattle.relation.specs.Approximant.{LeastRow, Approximant}
-use Rattle.relation.specs.Pair.{Pair}
+use Rattle.relation.specs.Fraction.{HasFraction, LowestFraction}
 
 -- the vector whose entry i is list i, and the rows whose row i is that of list i
 abbrev pub listed : List (List ℕ) → Vect
@@ -49,11 +49,12 @@ pub record Right (p n : ℕ) (F : Vect) (s : ℕ) (d : ℕ → ℤ) (a : Starred
   pub least : (i : ℕ) × (suc i ≡ a .least) × LeastRow n d (listedRows (a .rows)) i
   pub count : ShrinkCount p n F s (a .count)
 
--- a pair names the basis that it is read from
+-- a pair, and that there is none, name the basis that shows it
 pub data Case : Type 0 where
   basis : StarredJob → StarredAnswer → Case
   approximant : StarredJob → StarredAnswer → Case
   pair : (p k : ℕ) (g r t : List ℕ) → StarredAnswer → Case
+  noFraction : (p k : ℕ) (g : List ℕ) → StarredAnswer → Case
   inverse : (p a b : ℕ) → Case
 
 unfoldable pub Holds : Case → Type 0
@@ -61,7 +62,8 @@ Holds (basis j a) = Right (j .p) (j .n) (listed (j .series)) (j .s) (typeOf (j .
 Holds (approximant j a) =
     (r : Right (j .p) (j .n) (listed (j .series)) (j .s) (typeOf (j .type)) a)
     × Approximant (j .p) (j .n) (listed (j .series)) (typeOf (j .type)) (j .s) (listedRows (a .rows)) (r .least .0)
-Holds (pair p k g r t a) = Prime p × Pair p k (length g) (poly g) (poly r) (poly t)
+Holds (pair p k g r t a) = Prime p × LowestFraction p k (length g) (poly g) (poly r) (poly t)
+Holds (noFraction p k g a) = Prime p × (¬ HasFraction p k (length g) (poly g))
 Holds (inverse p a b) = Prime p × Inverse p a b
 
 -- every case of a list holds
@@ -133,7 +135,7 @@ abbrev pub c7-answer : StarredAnswer
 c7-answer = record { rows = ((1 ∷ []) ∷ []) ∷ []; pivots = 0 ∷ []; degrees = pos 0 ∷ []; least = 1; count = 0 }
 
 abbrev pub c9 : Case
-c9 = pair 7 1 (0 ∷ 1 ∷ []) (0 ∷ []) (0 ∷ 1 ∷ []) (record {
+c9 = noFraction 7 1 (0 ∷ 1 ∷ []) (record {
   rows = ((0 ∷ 1 ∷ []) ∷ (1 ∷ []) ∷ []) ∷ ((0 ∷ []) ∷ (0 ∷ 1 ∷ []) ∷ []) ∷ [];
   pivots = 1 ∷ 1 ∷ [];
   degrees = pos 1 ∷ pos 0 ∷ [];
@@ -141,7 +143,7 @@ c9 = pair 7 1 (0 ∷ 1 ∷ []) (0 ∷ []) (0 ∷ 1 ∷ []) (record {
   count = 2;
 })
 
--- C1 to C10; the approximant of C7 is the same as its basis, and the pair of C8 is read from the basis of C1
+-- C1 to C10; the approximant of C7 is the same as its basis, the pair of C8 is read from the basis of C1, and C9 has none
 abbrev pub starred : List Case
 starred =
     basis c1 c1-answer
@@ -152,7 +154,7 @@ starred =
     ∷ c6
     ∷ basis c7 c7-answer
     ∷ approximant c7 c7-answer
-    ∷ pair 7 1 (1 ∷ 1 ∷ 2 ∷ []) (6 ∷ []) (6 ∷ 1 ∷ 1 ∷ []) c1-answer
+    ∷ pair 7 1 (1 ∷ 1 ∷ 2 ∷ []) (1 ∷ []) (1 ∷ 6 ∷ 6 ∷ []) c1-answer
     ∷ c9
     ∷ inverse 7 3 5
     ∷ []
