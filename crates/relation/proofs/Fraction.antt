@@ -1,4 +1,5 @@
 -- Fractions of a series. Let r0, t0 be the pair of k and N coefficients of g.
+--   expansion-agrees           whatever series r / t is, it is g to order N
 --   least-no-factor            a least row has no common factor with a nonzero constant term
 --   fraction-is-multiple       every fraction is a polynomial multiple of r0, t0
 --   no-fraction-at-zero        so there is none where t0(0) is 0
@@ -39,6 +40,11 @@ use Rattle.relation.proofs.Shift.{base, offsets, offset}
 use Rattle.relation.proofs.Bridge.{degree-exists, leads→degree, minimal→basis, least→basis, pivots-exist}
 use Rattle.relation.proofs.Pair.{type-first, type-second, pair-exists, pair-vanishes, pair-agrees, pair-numerator, pair-denominator, numerator-polynomial, denominator-polynomial}
 
+-- a series that t takes to r is g to order N
+pub expansion-agrees : {p k N : ℕ} {g r t : ℕ → ℕ} → Prime p → Fraction p k N g r t → (e : ℕ → ℕ) → ((x : ℕ) → x < N → r x ≡ conv t e x % p)
+    → (x : ℕ) → x < N → e x % p ≡ g x % p
+expansion-agrees {p} {k} {N} {g} {r} {t} pr f e h = cancel-factor p pr t e g (f .denominator .small 0) (f .constant) N (λ x hx. sym (h x hx) ∙ f .agrees x hx)
+
 -- a member of V_s that leads no higher than the least row has no factor c but constants, if c(0) is not 0:
 -- the quotients are a member too, and would lead lower
 module _ {p n : ℕ} {b : ℕ → ℕ} {F : Vect} {s : ℕ} {Q : ℕ → Vect} {e : ℕ → ℕ} (pr : Prime p) (wb : WeightBasis p n b F s Q e)
@@ -57,9 +63,10 @@ module _ {p n : ℕ} {b : ℕ → ℕ} {F : Vect} {s : ℕ} {Q : ℕ → Vect} {
   ]
     where
       member : VanishesTo p n F s A
-      member = cancel-factor p pr c (dot n A F) (pc .small 0) c0 s (λ x hx.
+      member y hy = cancel-factor p pr c (dot n A F) (λ x. 0) (pc .small 0) c0 s (λ x hx.
           rw (← dot-assoc n c A F x) (sym (dot-mod p n (λ j. conv c (A j)) F x)
-          ∙ (let q : S ≡ (λ j x. conv c (A j) x % p) = fun-ext λ j. fun-ext λ x. prod j x in rw q at (vS x hx))))
+          ∙ (let q : S ≡ (λ j x. conv c (A j) x % p) = fun-ext λ j. fun-ext λ x. prod j x in rw q at (vS x hx)) ∙ sym (rw (conv-none c x) (zero-mod p)))) y hy
+          ∙ zero-mod p
 
 -- the vector of two polynomials
 pairVector : (ℕ → ℕ) → (ℕ → ℕ) → Vect

@@ -12,15 +12,15 @@ use native.Mathlib.Decide.{ℕ-discrete, decLt}
 use native.Mathlib.Omega.{arith}
 use Rattle.field.specs.Prime.{Prime}
 use Rattle.field.specs.Inverse.{Inverse}
-use Rattle.field.proofs.Residue.{mod-mul-left, mod-mul, mult-zero}
-use Rattle.field.proofs.Prime.{no-zero-div}
+use Rattle.field.proofs.Residue.{mod-mul-left, mod-mul-right, mod-mul}
+use Rattle.field.proofs.Prime.{cancel-mul, no-zero-div}
 use Rattle.relation.specs.Sum.{sumTo}
 use Rattle.relation.specs.Product.{conv, dot}
 use Rattle.relation.specs.Vector.{Vect}
 use Rattle.relation.specs.Degree.{Degree, DegreeBelow}
 use Rattle.relation.specs.Polynomial.{Polynomial}
 use Rattle.relation.specs.Operations.{scaled}
-use Rattle.relation.proofs.Sum.{sum-ext, sum-add, sum-head, sum-single, sum-all-zero, sum-cong, sum-differ, sum-zero}
+use Rattle.relation.proofs.Sum.{sum-ext, sum-add, sum-head, sum-single, sum-all-zero, sum-cong, sum-differ}
 use Rattle.relation.proofs.Product.{conv-add, conv-scale, conv-mod}
 
 pub conv-zero : (a f : ℕ → ℕ) → conv a f 0 ≡ a 0 * f 0
@@ -88,20 +88,20 @@ product-leading c f u v hc hf =
     ∙ rw q
 
 module _ (p : ℕ) (pr : Prime p) where
-  cancel-last : (c f : ℕ → ℕ) → c 0 < p → c 0 ≢ 0 → (s : ℕ) → conv c f s % p ≡ 0 → ((y : ℕ) → y < s → f y % p ≡ 0) → f s % p ≡ 0
+  cancel-last : (c f g : ℕ → ℕ) → c 0 < p → c 0 ≢ 0 → (s : ℕ) → conv c f s % p ≡ conv c g s % p → ((y : ℕ) → y < s → f y % p ≡ g y % p) → f s % p ≡ g s % p
   unfolding conv
-  cancel-last c f l nz s h z =
-      let first : (c 0 * f (s - 0)) % p ≡ 0 % p =
-      sum-differ p (suc s) (λ t. c t * f (s - t)) (λ t. 0) 0 (omega arith) (omega arith) (h ∙ sym (rw (sum-zero (suc s)) (zero-mod p)))
-      (λ t ht ne. rw (mul-comm (c t) (f (s - t))) (mult-zero p (f (s - t)) (c t) (z (s - t) (omega arith)) ∙ sym (zero-mod p))) in
-      no-zero-div p pr (c 0) (f s) l (rw (mul-comm (f s) (c 0)) (rw (sub-zero, zero-mod) at first)) nz
+  cancel-last c f g l nz s h z =
+      let first : (c 0 * f (s - 0)) % p ≡ (c 0 * g (s - 0)) % p =
+      sum-differ p (suc s) (λ t. c t * f (s - t)) (λ t. c t * g (s - t)) 0 (omega arith) (omega arith) h
+      (λ t ht ne. sym (mod-mul-right p (c t) (f (s - t))) ∙ rw (z (s - t) (omega arith)) (mod-mul-right p (c t) (g (s - t)))) in
+      cancel-mul p pr (f s) (g s) (c 0) l nz (rw (mul-comm (f s) (c 0), mul-comm (g s) (c 0)) (rw sub-zero at first))
 
   -- a factor with a nonzero constant term can be taken away, to any order
-  pub cancel-factor : (c f : ℕ → ℕ) → c 0 < p → c 0 ≢ 0 → (s : ℕ) → ((x : ℕ) → x < s → conv c f x % p ≡ 0) → (x : ℕ) → x < s → f x % p ≡ 0
-  cancel-factor c f l nz zero h x hx = absurd (omega arith)
-  cancel-factor c f l nz (suc s) h x hx = elim (ℕ-discrete x s) [
-    | no ne ↦ cancel-factor c f l nz s (λ y hy. h y (omega arith)) x (omega arith)
-    | yes q ↦ rw q (cancel-last c f l nz s (h s (omega arith)) (cancel-factor c f l nz s (λ y hy. h y (omega arith))))
+  pub cancel-factor : (c f g : ℕ → ℕ) → c 0 < p → c 0 ≢ 0 → (s : ℕ) → ((x : ℕ) → x < s → conv c f x % p ≡ conv c g x % p) → (x : ℕ) → x < s → f x % p ≡ g x % p
+  cancel-factor c f g l nz zero h x hx = absurd (omega arith)
+  cancel-factor c f g l nz (suc s) h x hx = elim (ℕ-discrete x s) [
+    | no ne ↦ cancel-factor c f g l nz s (λ y hy. h y (omega arith)) x (omega arith)
+    | yes q ↦ rw q (cancel-last c f g l nz s (h s (omega arith)) (cancel-factor c f g l nz s (λ y hy. h y (omega arith))))
   ]
 
   -- the leading coefficient of a product is not 0
