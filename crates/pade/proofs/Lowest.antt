@@ -1,5 +1,5 @@
 -- The least row divided by the constant term of its t is the fraction in lowest terms; where that term is zero there is no fraction.
-use mathlib.Core.Path.{_≡_, sym, _∙_, fun-ext, subst}
+use mathlib.Core.Path.{_≡_, sym, _∙_, fun-ext}
 use mathlib.Core.Logic.{inl, inr}
 use mathlib.Core.Bool.{Bool}
 use mathlib.Core.List.{List}
@@ -13,7 +13,6 @@ use Rattle.words.specs.Part.{part}
 use Rattle.words.proofs.Part.{part-fits, part-length}
 use Rattle.relation.specs.Degree.{DegreeBelow}
 use Rattle.relation.specs.Operations.{scaled}
-use Rattle.relation.specs.Fraction.{LowestFraction}
 use Rattle.relation.proofs.Pair.{pair-numerator, pair-denominator, denominator-polynomial}
 use Rattle.relation.proofs.Fraction.{no-fraction-at-zero, scaled-pair-is-lowest}
 use Rattle.row.specs.View.{vector, row}

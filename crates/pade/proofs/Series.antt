@@ -1,6 +1,5 @@
 -- The words of the pair's two series: -1, and g after it.
 use mathlib.Core.Path.{_≡_, refl, ap, sym, _∙_}
-use mathlib.Core.Logic.{_≢_}
 use mathlib.Core.List.{List}
 use Prim.Native.Nat.{ℕ, zero, suc, _+_, _*_, _-_, _≤_}
 use native.Mathlib.Nat.{one-mul}
@@ -10,17 +9,12 @@ use lib.ListN.{length, set, length-set}
 use lib.Seq.{getD-set-same, getD-set-other}
 use borrow.Rule.Slice.PartMut.{putMid}
 use Rattle.relation.specs.Pair.{pairSeries}
+use Rattle.relation.proofs.Pair.{minus-one-ends}
 use Rattle.words.specs.Polynomial.{poly}
 use Rattle.row.specs.View.{vector}
 use Rattle.words.specs.Part.{part}
 use Rattle.words.proofs.Part.{put, put-length, put-same, put-other}
 use Rattle.row.proofs.Part.{part-at, row-ext, vector-high}
-
--- the series -1 past its constant term
-pub minus-one-ends : (p : ℕ) (g : ℕ → ℕ) (y : ℕ) → y ≢ 0 → pairSeries p g 0 y ≡ 0
-unfolding pairSeries
-minus-one-ends p g zero h = absurd (h refl)
-minus-one-ends p g (suc y) h = refl
 
 -- past the second series there is nothing
 no-third : (p : ℕ) (g : ℕ → ℕ) (i t : ℕ) → 2 ≤ i → pairSeries p g i t ≡ 0

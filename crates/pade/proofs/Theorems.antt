@@ -1,7 +1,7 @@
 -- What the pair call says of fractions, where its arguments pass their tests.
 --   answers-exactly, refuses-exactly   it answers exactly where a fraction exists, and gives 13 exactly where none does
 --   others-are-multiples               every fraction is a polynomial multiple of the one that is written
-use mathlib.Core.Path.{_≡_, refl, ap, sym, _∙_}
+use mathlib.Core.Path.{_≡_, ap, sym, _∙_}
 use mathlib.Core.Logic.{_↔_, inl, inr}
 use mathlib.Core.List.{List, []}
 use Prim.Native.Nat.{ℕ}
@@ -9,24 +9,22 @@ use native.Mathlib.Omega.{arith}
 use lib.ListN.{length}
 use Rattle.field.specs.Refusal.{NoTest, First, Outcome}
 use Rattle.field.specs.Answer.{Answer, result, refusal}
-use Rattle.field.proofs.Refusal.{none-both, first-right, first-unique, first-or-none, answer}
+use Rattle.field.proofs.Refusal.{first-unique, first-or-none, answer}
 use Rattle.words.specs.Polynomial.{poly}
 use Rattle.relation.specs.Polynomial.{PolynomialMultiple}
 use Rattle.relation.specs.Fraction.{Fraction, HasFraction}
 use Rattle.relation.proofs.Fraction.{fraction-of-lowest}
-use Rattle.pade.specs.Orders.{argumentsOrder, lastOrder, pairOrder}
+use Rattle.pade.specs.Orders.{argumentsOrder, pairOrder}
 use Rattle.pade.specs.Pair.{PairWritten, PairOutcome}
-use Rattle.pade.proofs.Admitted.{pair-lent}
+use Rattle.pade.proofs.Admitted.{pair-lent, none-holds, last-holds}
 
 no-result-refused : {j : ℕ} → ¬ (result [] ≡ refusal j)
 no-result-refused e = let z : _≡_ {A = ℕ} 0 1 = cc in omega arith
 
 module _ (p k : ℕ) (g r t : List ℕ) (said : Answer) (r′ t′ : List ℕ) (passed : NoTest (argumentsOrder p k g (length r) (length t))) (o : PairOutcome p k g r t said r′ t′) where
   answered : HasFraction p k (length g) (poly g) → (said ≡ result []) × PairWritten p k g r′ t′
-  unfolding PairOutcome NoTest
-  answered x =
-      let last : NoTest (lastOrder p k g) = ((λ none. none x), tt) in
-      answer (pairOrder p k g (length r) (length t)) _ _ o (none-both (argumentsOrder p k g (length r) (length t)) (lastOrder p k g) passed last)
+  unfolding PairOutcome
+  answered x = answer (pairOrder p k g (length r) (length t)) _ _ o (none-holds p k g (length r) (length t) passed x)
 
   pub answers-exactly : (said ≡ result []) ↔ HasFraction p k (length g) (poly g)
   unfolding PairOutcome Outcome
@@ -37,8 +35,8 @@ module _ (p k : ℕ) (g r t : List ℕ) (said : Answer) (r′ t′ : List ℕ) (
       to (inr b) e = absurd (no-result-refused (sym e ∙ b .2 .0))
 
   pub refuses-exactly : (said ≡ refusal 13) ↔ (¬ (HasFraction p k (length g) (poly g)))
-  unfolding PairOutcome Outcome First
-  refuses-exactly = ((λ e x. no-result-refused (sym (answered x .0) ∙ e)), λ none. from o (first-right (argumentsOrder p k g (length r) (length t)) (lastOrder p k g) 13 passed (inl (none, refl))))
+  unfolding PairOutcome Outcome
+  refuses-exactly = ((λ e x. no-result-refused (sym (answered x .0) ∙ e)), λ none. from o (last-holds p k g (length r) (length t) passed none))
     where
       from : PairOutcome p k g r t said r′ t′ → First (pairOrder p k g (length r) (length t)) 13 → said ≡ refusal 13
       from (inl a) f = absurd (first-or-none _ 13 f (a .0))

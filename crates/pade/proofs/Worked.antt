@@ -8,13 +8,14 @@ use lib.ListN.{length}
 use Rattle.field.specs.declared.Tested.{Tested}
 use Rattle.field.specs.Calls.{Tests}
 use Rattle.field.proofs.Tests.{stopped}
-use Rattle.field.specs.Refusal.{NoTest, First, Outcome}
+use Rattle.field.specs.Refusal.{NoTest, Outcome}
 use Rattle.field.specs.Answer.{result, refusal}
-use Rattle.field.proofs.Refusal.{none-both, first-left, first-right}
+use Rattle.field.proofs.Refusal.{first-left}
 use Rattle.words.specs.Polynomial.{poly}
 use Rattle.pade.specs.Orders.{argumentsOrder, lastOrder}
 use Rattle.pade.specs.Pair.{PairOutcome}
 use Rattle.pade.specs.Work.{FractionOrNone}
+use Rattle.pade.proofs.Admitted.{none-holds, last-holds}
 
 module _ (p k : ℕ) (g r t : List ℕ) where
   -- the arguments are refused
@@ -25,14 +26,12 @@ module _ (p k : ℕ) (g r t : List ℕ) where
   module _ (r′ t′ : List ℕ) (passed : NoTest (argumentsOrder p k g (length r) (length t))) (said : Bool) where
     -- a fraction was found
     pub answered : said ≡ true → FractionOrNone p k g r t said r′ t′ → PairOutcome p k g r t (result []) r′ t′
-    unfolding PairOutcome Outcome NoTest
-    answered e (inl a) =
-        let last : NoTest (lastOrder p k g) = ((λ none. none (poly r′, poly t′, a .1 .lowest .fraction)), tt) in
-        inl (none-both (argumentsOrder p k g (length r) (length t)) (lastOrder p k g) passed last, (refl, a .1))
+    unfolding PairOutcome Outcome
+    answered e (inl a) = inl (none-holds p k g (length r) (length t) passed (poly r′, poly t′, a .1 .lowest .fraction), (refl, a .1))
     answered e (inr b) = absurd (false≢true (sym (b .0) ∙ e))
 
     -- there is none
     pub none-found : said ≡ false → FractionOrNone p k g r t said r′ t′ → PairOutcome p k g r t (refusal 13) r′ t′
-    unfolding PairOutcome Outcome First
+    unfolding PairOutcome Outcome
     none-found e (inl a) = absurd (false≢true (sym e ∙ a .0))
-    none-found e (inr b) = inr (13, first-right (argumentsOrder p k g (length r) (length t)) (lastOrder p k g) 13 passed (inl (b .1, refl)), (refl, b .2, b .3))
+    none-found e (inr b) = inr (13, last-holds p k g (length r) (length t) passed (b .1), (refl, b .2, b .3))

@@ -14,7 +14,7 @@ use Rattle.field.proofs.Prime.{inverse-exists}
 use Rattle.relation.specs.Sum.{sumTo}
 use Rattle.relation.specs.Vector.{Vect, IsVec}
 use Rattle.relation.specs.Relation.{VanishesTo}
-use Rattle.relation.specs.ReducedBasis.{WeightBasis, ReducedAt, ReducedBasis}
+use Rattle.relation.specs.ReducedBasis.{WeightBasis, ReducedBasis}
 use Rattle.relation.specs.Operations.{addMultiple}
 use Rattle.relation.proofs.Vector.{timesXPower, zeroVector, vec-addMultiple, vec-timesXPower, zero-addMultiple, addMultiple-back, timesXPower-at, vanishes-addMultiple, vanishes-term}
 use Rattle.relation.specs.Weight.{weight, BelowWeight, LeadsAt}

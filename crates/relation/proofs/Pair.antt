@@ -41,20 +41,19 @@ module _ (k N : ℕ) (one≤k : 1 ≤ k) (k≤N : k ≤ N) where
       let a = approximant-exists p 2 (pairSeries p g) (pairType k N) N pr (omega arith) pair-order in
       (a .0 (a .1) 0, a .0 (a .1) 1, record { rows = a .0; row = a .1; approximant = a .2; first = λ x. refl; second = λ x. refl })
 
+-- the series -1 past its constant term
+pub minus-one-ends : (p : ℕ) (g : ℕ → ℕ) (y : ℕ) → y ≢ 0 → pairSeries p g 0 y ≡ 0
+unfolding pairSeries
+minus-one-ends p g zero h = absurd (h refl)
+minus-one-ends p g (suc y) h = refl
+
 -- the coefficient of X^x in -P_1 + P_2 g
 pair-dot : (p : ℕ) (g : ℕ → ℕ) (P : Vect) (x : ℕ) → dot 2 P (pairSeries p g) x ≡ P 0 x * (p - 1) + conv (P 1) g x
 unfolding dot sumTo conv pairSeries
 pair-dot p g P x =
-    let a : conv (P 0) (pairSeries p g 0) x ≡ P 0 x * (p - 1) = sum-single (suc x) _ x (omega arith) (λ t ht ne. other t (x - t) (omega arith)) ∙ at (x - x) (omega arith) in
+    let z : x - x ≡ 0 = omega arith in
+    let a : conv (P 0) (pairSeries p g 0) x ≡ P 0 x * (p - 1) = sum-single (suc x) _ x (omega arith) (λ t ht ne. rw (minus-one-ends p g (x - t) (omega arith)) (mul-zero (P 0 t))) ∙ rw z in
     rw (a, zero-add)
-  where
-    other : (t y : ℕ) → y ≢ 0 → P 0 t * pairSeries p g 0 y ≡ 0
-    other t zero ne = absurd (ne refl)
-    other t (suc y) ne = mul-zero (P 0 t)
-
-    at : (y : ℕ) → y ≡ 0 → P 0 x * pairSeries p g 0 y ≡ P 0 x * (p - 1)
-    at zero q = refl
-    at (suc y) q = absurd (omega arith)
 
 -- a residue and its negative
 minus-one-times : (p a y : ℕ) → 0 < p → a < p → ((a * (p - 1) + y) % p ≡ 0) ↔ (a ≡ y % p)

@@ -1,6 +1,6 @@
 -- `scale` meets its contract: below x the words are the multiples.
 use mathlib.Core.Path.{_∙_}
-use Prim.Native.Nat.{_*_, _-_, _%_, _≤_}
+use Prim.Native.Nat.{_-_, _≤_}
 use native.Mathlib.Nat.{zero-add}
 use native.Mathlib.Omega.{arith}
 use lib.ListN.{length}
