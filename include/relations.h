@@ -11,10 +11,10 @@
 //    4  a lent buffer has another length than stated  11  block count differs from the header's
 //    5  a type entry above 255                        12  a spare payload word is not zero
 //    6  a coefficient not below p                     13  no fraction exists
-//    7  k outside 1 to N
+//    7  k outside 1 to N                              14  more than 16 sets
 //
-// An answer buffer of another length than stated gives 4 before every other test. Statuses above 255 have no number in that table and are
-// defined below.
+// An answer buffer of another length than stated gives 4 before every other test; only relations_bases tests it in its turn. Statuses
+// above 255 have no number in that table and are defined below.
 #ifndef RELATIONS_H
 #define RELATIONS_H
 
@@ -29,6 +29,7 @@ extern "C" {
 #define RELATIONS_TYPE 8u             // words that the reader is lent for the type
 #define RELATIONS_SERIES 2040u        // words that the reader is lent for the series
 #define RELATIONS_BASIS 16384u        // words of the largest basis, n = 8 and s = 255
+#define RELATIONS_SETS 16u            // the largest number of sets of series in one call
 #define RELATIONS_FILE 8704u          // bytes of the largest job file, 17 blocks of 512
 #define RELATIONS_TEXT 180809u        // bytes that the text calls are lent
 #define RELATIONS_NO_INVERSE 256u     // status of the inverse of zero, which has no number
@@ -66,6 +67,17 @@ uint32_t relations_approximant(uint32_t p, uint32_t n,
                                const uint32_t *series, size_t series_len,
                                uint32_t *basis, size_t basis_len,
                                uint32_t *answer, size_t answer_len);
+
+// The bases of many sets of n series that share p, n, s and the type, each as relations_basis gives it. 0 to RELATIONS_SETS sets are
+// admitted. d: the type, n words. series: sets * n * s words, set after set. bases: sets * n * n * (s + 1) words, set after set.
+// answers: 3 words a set: 0 and the two words of its answer; or 6, 0, 0 where a coefficient of the set is not below p. Such a set's part
+// of the bases stays as lent, the other sets are answered, and the status is 0.
+// Order: 1, 2, 3, 14, 4 for type, series, bases and answers, 5.
+uint32_t relations_bases(uint32_t p, uint32_t n, uint32_t s, uint32_t sets,
+                         const uint32_t *d, size_t d_len,
+                         const uint32_t *series, size_t series_len,
+                         uint32_t *bases, size_t bases_len,
+                         uint32_t *answers, size_t answers_len);
 
 // The fraction r / t in lowest terms whose series is g to order N = g_len: r = t * g to order N, deg r below k, deg t at most N - k,
 // t[0] = 1, and only constants divide both r and t modulo p. There is at most one such pair; for g = 0 it is r = 0, t = 1.

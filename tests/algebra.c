@@ -260,6 +260,33 @@ uint32_t algebra_approximant(uint32_t p, uint32_t n, const uint32_t *type, size_
     return 0;
 }
 
+uint32_t algebra_bases(uint32_t p, uint32_t n, uint32_t s, uint32_t sets, const uint32_t *type, size_t type_len,
+                       const uint32_t *series, size_t series_len, uint32_t *bases, size_t bases_len, uint32_t *answers, size_t answers_len)
+{
+    if (algebra_modulus(p) != 0)
+        return 1;
+    if (n < 1 || n > WIDEST)
+        return 2;
+    if (s > HIGHEST)
+        return 3;
+    if (sets > MOST_SETS)
+        return 14;
+    if (type_len != n || series_len != sets * n * s || bases_len != sets * n * n * (s + 1) || answers_len != 3 * sets)
+        return 4;
+    if (any_above(type, type_len, 255))
+        return 5;
+    for (uint32_t j = 0; j < sets; j++) {
+        const uint32_t *set = series + j * n * s;
+        uint32_t *answer = answers + 3 * j;
+        memset(answer, 0, 3 * sizeof *answer);
+        if (any_above(set, n * s, p - 1))
+            answer[0] = 6;
+        else
+            solve(p, n, s, type, set, bases + j * n * n * (s + 1), answer + 1);
+    }
+    return 0;
+}
+
 uint32_t algebra_pair(uint32_t p, uint32_t k, const uint32_t *g, size_t g_len, uint32_t *r, size_t r_len, uint32_t *t, size_t t_len)
 {
     if (algebra_modulus(p) != 0)

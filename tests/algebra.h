@@ -6,7 +6,7 @@
 #include <stddef.h>
 #include <stdint.h>
 
-enum { LARGEST = 2147483647, WIDEST = 8, HIGHEST = 255, FILE_BYTES = 8704 };
+enum { LARGEST = 2147483647, WIDEST = 8, HIGHEST = 255, MOST_SETS = 16, FILE_BYTES = 8704 };
 
 int algebra_is_prime(uint32_t p);
 
@@ -21,6 +21,9 @@ uint32_t algebra_basis(uint32_t p, uint32_t n, uint32_t s, const uint32_t *type,
                        const uint32_t *series, size_t series_len, uint32_t *basis, size_t basis_len, uint32_t *answer);
 uint32_t algebra_approximant(uint32_t p, uint32_t n, const uint32_t *type, size_t type_len,
                              const uint32_t *series, size_t series_len, uint32_t *basis, size_t basis_len, uint32_t *answer);
+// answers: a refusal or 0, least row and count for each set. A refused set's part of the bases is not written.
+uint32_t algebra_bases(uint32_t p, uint32_t n, uint32_t s, uint32_t sets, const uint32_t *type, size_t type_len,
+                       const uint32_t *series, size_t series_len, uint32_t *bases, size_t bases_len, uint32_t *answers, size_t answers_len);
 uint32_t algebra_pair(uint32_t p, uint32_t k, const uint32_t *g, size_t g_len, uint32_t *r, size_t r_len, uint32_t *t, size_t t_len);
 // answer: start and length of the part.
 void algebra_row(uint32_t n, uint32_t s, uint32_t i, size_t basis_len, uint32_t *answer);

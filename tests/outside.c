@@ -72,7 +72,7 @@ static void finish(const uint32_t *numbers, size_t len)
 
 // ---- Lent buffers
 
-enum { GUARD = 64, ROOM = 181000 };
+enum { GUARD = 64, ROOM = 1416000 }; // the largest buffer: 17 bases of n = 9 and s = 256
 
 struct lent {
     size_t bytes;
@@ -153,7 +153,7 @@ static void draw_series(uint32_t p, uint32_t n, uint32_t s, uint32_t *series)
 // ---- The basis and the approximant
 
 struct job {
-    uint32_t p, n, s;
+    uint32_t p, n, s, sets; // sets: for the call on many of them
     size_t type_len, series_len, basis_len, answer_len;
 };
 
@@ -197,10 +197,12 @@ static void place(struct lent *b, size_t words, const uint32_t *sound, size_t so
     memcpy(bytes_of(b), sound, 4 * (sound_words < words ? sound_words : words));
 }
 
+static uint32_t word_from(uint32_t least) { return one_in(2) ? least : one_in(2) ? 4294967295u : least + draw(1000); }
+
 static void spoil_word(struct lent *b, uint32_t least)
 {
     size_t words = b->bytes / 4;
-    uint32_t word = one_in(2) ? least : one_in(2) ? 4294967295u : least + draw(1000);
+    uint32_t word = word_from(least);
     size_t at = one_in(3) ? words - 1 : one_in(3) ? 0 : draw((uint32_t)words + 1); // the ends often
     if (at < words)
         words_of(b)[at] = word;
@@ -292,6 +294,169 @@ static void try_approximant(void)
     uint32_t status = relations_approximant(j.p, j.n, words_of(&type_), j.type_len, words_of(&series_), j.series_len,
                                             words_of(&basis_), j.basis_len, words_of(&answer_), j.answer_len);
     compare(status, wanted, basis, answer);
+}
+
+// ---- Many sets of series in one call
+
+static void state_lengths(struct job *job)
+{
+    job->type_len = job->n;
+    job->series_len = (size_t)job->sets * job->n * job->s;
+    job->basis_len = (size_t)job->sets * job->n * job->n * (job->s + 1);
+    job->answer_len = 3 * (size_t)job->sets;
+}
+
+// Lends a type and sets of series that are drawn for the sound job, in the lengths of the other.
+static void place_sets(const struct job *sound, const struct job *job)
+{
+    static uint32_t type[8], series[(MOST_SETS + 1) * 2040];
+    draw_type(sound->n, type);
+    for (uint32_t j = 0; j < sound->sets; j++)
+        draw_series(sound->p, sound->n, sound->s, series + j * sound->n * sound->s);
+    place(&type_, job->type_len, type, sound->n);
+    place(&series_, job->series_len, series, sound->sets * sound->n * sound->s);
+}
+
+// A coefficient of set j is not below p; often it is the set's first or last.
+static void spoil_set(const struct job *job, uint32_t j)
+{
+    uint32_t words = job->n * job->s, way = draw(3), word = word_from(job->p);
+    if (words == 0)
+        return;
+    size_t at = j * words + (way == 0 ? 0 : way == 1 ? words - 1 : draw(words));
+    if (at < series_.bytes / 4)
+        words_of(&series_)[at] = word;
+}
+
+// Each set's words are those of the single call on its series; `lent` has the bases as they were lent.
+static void compare_alone(const struct job *job, uint32_t *lent)
+{
+    uint32_t words = job->n * job->s, size = job->n * job->n * (job->s + 1);
+    for (uint32_t j = 0; j < job->sets; j++) {
+        uint32_t *said = words_of(&answer_) + 3 * j, *basis = lent + j * size, answer[2] = {0, 0};
+        status_is(said[0], relations_basis(job->p, job->n, job->s, words_of(&type_), job->type_len, words_of(&series_) + j * words, words,
+                                           basis, size, answer, 2));
+        check(memcmp(said + 1, answer, sizeof answer) == 0, "a set's least row and count are those of the single call");
+        check(memcmp(words_of(&basis_) + j * size, basis, 4 * size) == 0, "a set's basis is that of the single call");
+    }
+}
+
+// Makes the call on type_ and series_; answers its status by plain linear algebra.
+static uint32_t compare_bases(const struct job *j)
+{
+    static uint32_t bases[ROOM / 4], lent[ROOM / 4], answers[ROOM / 4];
+    fix(&type_);
+    fix(&series_);
+    lend_words(&basis_, j->basis_len);
+    lend_words(&answer_, j->answer_len);
+    memcpy(bases, bytes_of(&basis_), basis_.bytes);
+    memcpy(lent, bytes_of(&basis_), basis_.bytes);
+    uint32_t wanted = algebra_bases(j->p, j->n, j->s, j->sets, words_of(&type_), j->type_len, words_of(&series_), j->series_len,
+                                    bases, j->basis_len, answers, j->answer_len);
+    uint32_t status = relations_bases(j->p, j->n, j->s, j->sets, words_of(&type_), j->type_len, words_of(&series_), j->series_len,
+                                      words_of(&basis_), j->basis_len, words_of(&answer_), j->answer_len);
+    status_is(status, wanted);
+    kept(&type_, "type as lent");
+    kept(&series_, "series as lent");
+    holds(&basis_, bases, wanted == 0 ? basis_.bytes : 0, "bases, a refused set's as lent");
+    holds(&answer_, answers, wanted == 0 ? answer_.bytes : 0, "answers");
+    if (wanted == 0)
+        compare_alone(j, lent);
+    return wanted;
+}
+
+static void try_bases(void)
+{
+    static const uint32_t counts[] = {0, 1, 2, 3, 5, 8, 15, 16, 17}, rates[] = {0, 0, 1, 2, 6};
+    uint32_t p = PICK(primes), n = 1 + draw(8), s = draw_order(), sets = PICK(counts);
+    struct job sound = {.p = p, .n = n, .s = s, .sets = sets};
+    state_lengths(&sound);
+    struct job job = sound;
+    int faulty = one_in(2);
+    if (faulty)
+        spoil(&job, 1);
+    if (faulty && one_in(6))
+        job.sets = PICK(large);
+    place_sets(&sound, &job);
+    uint32_t rate = PICK(rates); // one set in so many is refused
+    for (uint32_t j = 0; j < sets && rate > 0; j++)
+        if (one_in(rate))
+            spoil_set(&sound, j);
+    if (faulty && one_in(2))
+        spoil_word(&type_, 256);
+    compare_bases(&job);
+}
+
+// A call in which only the sets `from` to `to` - 1, counted from 0, have a bad coefficient.
+static void ask_sets(uint32_t n, uint32_t s, uint32_t sets, uint32_t from, uint32_t to)
+{
+    struct job job = {.p = PICK(primes), .n = n, .s = s, .sets = sets};
+    state_lengths(&job);
+    place_sets(&job, &job);
+    for (uint32_t j = from; j < to; j++)
+        spoil_set(&job, j);
+    compare_bases(&job);
+}
+
+// Every number of sets up to one too many: without words, with none refused, with all, and with each one alone.
+static void try_each_set(void)
+{
+    for (uint32_t sets = 0; sets <= MOST_SETS + 1; sets++) {
+        uint32_t n = 1 + draw(8), s = 1 + draw(8);
+        ask_sets(n, 0, sets, 0, 0);
+        ask_sets(n, s, sets, 0, 0);
+        ask_sets(n, s, sets, 0, sets);
+        for (uint32_t j = 0; j < sets; j++)
+            ask_sets(n, s, sets, j, j + 1);
+    }
+}
+
+static void try_largest_sets(void) { ask_sets(WIDEST, HIGHEST, MOST_SETS, 7, 8); }
+
+static void one_off(size_t *len, int more) { *len += more || *len == 0 ? 1 : (size_t)-1; }
+
+// What can be wrong in the order of the tests, and the status for each; a bad coefficient refuses its set only.
+enum { MODULUS = 1, COUNT = 2, ORDER = 4, SETS = 8, TYPE = 16, SERIES = 32, BASES = 64, ANSWERS = 128, ENTRY = 256, COEFFICIENT = 512 };
+static const uint32_t fault_statuses[] = {1, 2, 3, 14, 4, 4, 4, 4, 5, 0};
+
+// The lengths are stated for the spoiled n, s and number of sets, so that each fault also comes alone.
+static void ask_with_faults(uint32_t faults, int more)
+{
+    uint32_t p = PICK(primes), n = 1 + draw(3), s = 1 + draw(3), sets = 1 + draw(3), first = 0;
+    struct job sound = {.p = p, .n = n, .s = s, .sets = sets}, job = sound;
+    if (faults & MODULUS)
+        job.p = PICK(bad_moduli);
+    if (faults & COUNT)
+        job.n = one_in(2) ? 0 : WIDEST + 1;
+    if (faults & ORDER)
+        job.s = HIGHEST + 1;
+    if (faults & SETS)
+        job.sets = MOST_SETS + 1;
+    state_lengths(&job);
+    if (faults & TYPE)
+        one_off(&job.type_len, more);
+    if (faults & SERIES)
+        one_off(&job.series_len, more);
+    if (faults & BASES)
+        one_off(&job.basis_len, more);
+    if (faults & ANSWERS)
+        one_off(&job.answer_len, more);
+    place_sets(&sound, &job);
+    if (faults & ENTRY && job.type_len > 0)
+        words_of(&type_)[draw((uint32_t)job.type_len)] = word_from(256);
+    if (faults & COEFFICIENT)
+        spoil_set(&sound, draw(sets));
+    while (faults != 0 && (faults >> first & 1) == 0)
+        first++;
+    check(compare_bases(&job) == (faults == 0 ? 0 : fault_statuses[first]), "the first fault");
+}
+
+// Every choice of the faults, with lengths that are one too many and one too few.
+static void try_faults(void)
+{
+    for (uint32_t faults = 0; faults < 2 * COEFFICIENT; faults++)
+        for (int more = 0; more <= 1; more++)
+            ask_with_faults(faults, more);
 }
 
 // ---- The pair
@@ -574,7 +739,7 @@ static void try_text(void)
 static void try_refused(void)
 {
     static char text[32];
-    uint32_t number = one_in(2) ? 1 + draw(13) : one_in(2) ? PICK(large) : (uint32_t)next() >> draw(32);
+    uint32_t number = one_in(2) ? 1 + draw(14) : one_in(2) ? PICK(large) : (uint32_t)next() >> draw(32);
     size_t text_len = text_length(), answer_len = answer_length(1);
     lend(&text_, text_len);
     lend_words(&answer_, answer_len);
@@ -965,6 +1130,12 @@ int main(int argc, char **argv)
     finish(NUMBERS(0, 1, 2, 3, 4, 5, 6));
     repeat("approximant", try_approximant, 2000 * scale);
     finish(NUMBERS(0, 1, 2, 3, 4, 5, 6));
+    repeat("bases of many sets", try_bases, 500 * scale);
+    finish(NUMBERS(0, 1, 2, 3, 4, 5, 6, 14));
+    repeat("bases, each set refused", try_each_set, is_long ? 20 : 1);
+    finish(NUMBERS(0, 6, 14));
+    repeat("bases, all choices of faults", try_faults, is_long ? 20 : 1);
+    finish(NUMBERS(0, 1, 2, 3, 4, 5, 6, 14));
     repeat("pair", try_pair, 2000 * scale);
     finish(NUMBERS(0, 1, 3, 4, 6, 7, 13));
     repeat("row view", try_row, 2000 * scale);
@@ -990,6 +1161,7 @@ int main(int argc, char **argv)
     repeat("demand 3: other relations", try_other_relations, 300 * scale);
     repeat("demand 3: combinations", try_combinations, 300 * scale);
     repeat("files there and back", try_round_trip, 500 * scale);
+    repeat("bases, the largest call", try_largest_sets, 1);
     printf("%" PRIu64 " passed, %" PRIu64 " failed\n", checks_made - checks_failed, checks_failed);
     return checks_failed != 0;
 }

@@ -1,4 +1,4 @@
-// A stand-in for the engine, to try the harness itself: tests/outside must pass over it, and must fail for each -DSLIP=1 to 40.
+// A stand-in for the engine, to try the harness itself: tests/outside must pass over it, and must fail for each -DSLIP=1 to 54.
 // It follows the engine's algorithm without its economy, and is no part of the product.
 #include "relations.h"
 
@@ -183,6 +183,63 @@ uint32_t relations_approximant(uint32_t p, uint32_t n, const uint32_t *type, siz
     if (above(series, n * s, p - 1, 6))
         return 6;
     solve(p, n, s, type, series, basis, answer);
+    return 0;
+}
+
+// The tests of the whole call; 44: more than 16 sets refused after the lengths.
+static uint32_t test_sets(uint32_t p, uint32_t n, uint32_t s, uint32_t sets, const uint32_t *type, size_t type_len,
+                          size_t series_len, size_t bases_len, size_t answers_len)
+{
+    size_t words = 3 * (size_t)sets;
+    if (SLIP == 51 && answers_len != words) // the answers' length tested first
+        return 4;
+    if (relations_modulus(p))
+        return 1;
+    if (n < 1 || n > 8)
+        return 2;
+    if (s > 255)
+        return 3;
+    if (sets > (SLIP == 45 ? 17 : 16) && SLIP != 44) // 45: seventeen sets accepted
+        return 14;
+    if (SLIP == 50 && sets == 0) // no sets refused
+        return 14;
+    if (type_len != n || series_len != (size_t)sets * n * s || bases_len != (size_t)sets * n * n * (s + 1))
+        return 4;
+    if (SLIP == 52 ? answers_len < words : answers_len != words) // longer answers accepted
+        return 4;
+    if (sets > 16 && SLIP == 44)
+        return 14;
+    return above(type, n, 255, 5);
+}
+
+uint32_t relations_bases(uint32_t p, uint32_t n, uint32_t s, uint32_t sets, const uint32_t *type, size_t type_len,
+                         const uint32_t *series, size_t series_len, uint32_t *bases, size_t bases_len, uint32_t *answers, size_t answers_len)
+{
+    uint32_t status = test_sets(p, n, s, sets, type, type_len, series_len, bases_len, answers_len), words = n * s, size = n * n * (s + 1);
+    if (status != 0 && SLIP == 47 && answers_len > 0) // a refused call's number among the answers
+        answers[0] = status;
+    if (status != 0 && SLIP == 53) // a refused call's bases cleared
+        memset(bases, 0, 4 * bases_len);
+    if (status != 0)
+        return status;
+    if (SLIP == 49 && above(series, sets * words, p - 1, 6)) // a set's coefficient refuses the call
+        return 6;
+    for (uint32_t j = 0; j < sets; j++) {
+        const uint32_t *set = series + (SLIP == 46 && j == 1 ? 0 : j) * words; // the second set from the first one's series
+        uint32_t *basis = bases + j * size, *answer = answers + 3 * (SLIP == 43 ? (j + 1) % sets : j); // an answer at the next set's place
+        uint32_t tested = words + (SLIP == 54 && words > 0 && j + 1 < sets); // refused for the next set's first coefficient
+        answer[0] = above(set, tested, p - 1, 6);
+        if (answer[0] == 0) {
+            solve(p, n, s, type, set, basis, answer + 1);
+            continue;
+        }
+        if (SLIP != 48) // 48: two words of a refused set as they were
+            answer[1] = answer[2] = 0;
+        if (SLIP == 42) // a refused set's part cleared
+            memset(basis, 0, 4 * size);
+        if (SLIP == 41) // a refused set stops those after it
+            break;
+    }
     return 0;
 }
 

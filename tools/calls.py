@@ -93,6 +93,7 @@ CALLS = {  # how many numbers; the kinds of the slices, a capital where the call
     'invert': (2, '', invert),
     'basis': (3, 'wwW', reference.basis),
     'approximant': (2, 'wwW', reference.approximant),
+    'bases': (4, 'wwWW', reference.bases),
     'pair': (2, 'wWW', reference.pair),
     'row': (3, 'w', row),
     'block_checks': (0, 'b', reference.block_checks),

@@ -152,6 +152,25 @@ APPROXIMANT_JOBS = [  # the third number is the order of the type
     (LARGEST, 7, 223, 8, 0, 5, 9), (LARGEST, 6, 20, 6, 0, 3, 10), (5, 4, 9, 6, 0, 0, 11), (101, 3, 110, 2, 0, 7, 12),
 ]
 
+SETS = [  # what a group is; p, n, s, type rule, how many sets, which of them are refused, seed
+    ('no set, one, two, sixteen; seventeen are too many', [
+        (7, 2, 3, 5, 0, [], 1), (7, 2, 3, 5, 1, [], 2), (7, 2, 3, 5, 2, [], 3), (LARGEST, 2, 7, 5, 16, [], 4), (7, 2, 3, 5, 17, [], 5), (LARGEST, 8, 14, 3, 17, [0, 16], 6)]),
+    ('refused: one set alone; of two the first, the second, both', [
+        (7, 1, 4, 0, 1, [0], 7), (7, 2, 3, 5, 2, [0], 8), (7, 2, 3, 5, 2, [1], 9), (7, 2, 3, 5, 2, [0, 1], 10)]),
+    ('of five at the front, in the middle, at the end, at both ends, between them, all', [
+        (101, 2, 4, 6, 5, refused, 11) for refused in ([0], [2], [4], [0, 4], [1, 2, 3], [0, 1, 2, 3, 4])]),
+    ('of sixteen the first, the last, every other, all but one, all', [
+        (257, 2, 2, 5, 16, refused, 12) for refused in ([0], [15], range(1, 16, 2), [j for j in range(16) if j != 9], range(16))]),
+    ('one to eight series', [(LARGEST, n, 12 - n, 5, 3, [n % 3], 12 + n) for n in range(1, 9)]),
+    ('order 0: a set has no coefficient, so none is refused', [
+        (7, 1, 0, 0, 0, [], 21), (7, 1, 0, 0, 1, [], 22), (2, 2, 0, 5, 16, [], 23), (LARGEST, 8, 0, 3, 2, [], 24), (7, 1, 0, 0, 17, [], 25)]),
+    ('16384 words of bases', [
+        (LARGEST, 8, 15, 5, 16, [3, 8], 26), (65537, 4, 63, 4, 16, [0], 27), (LARGEST, 2, 255, 0, 16, [j for j in range(16) if j not in (5, 12)], 28), (2, 8, 255, 4, 1, [], 29),
+        (LARGEST, 8, 255, 0, 1, [0], 30)]),
+]
+
+SAME_SETS = [(2, 3, 3, 5, 1), (5, 2, 1, 0, 2), (7, 2, 5, 6, 3), (101, 4, 6, 5, 4), (LARGEST, 3, 9, 5, 5)]  # p, n, s, type rule, seed
+
 PAIR_JOBS = [  # what a group is; p, k, N, zeros, series rule, seed
     ('drawn series', [
         (7, 1, 1, 0, 8, 1), (2, 1, 255, 0, 1, 2), (2, 255, 255, 0, 1, 3), (LARGEST, 128, 255, 0, 1, 4),
@@ -204,6 +223,10 @@ def approximant_request(p, n, type_, series, count, sums=False):
     return Request('approximant', p, n, type_, series, lent_words(count), sums=sums)
 
 
+def bases_request(p, n, s, sets, type_, series, bases, answers):
+    return Request('bases', p, n, s, sets, type_, series, bases, answers, sums=len(bases.values) > 256)
+
+
 def pair_request(p, k, g, r_len, t_len):
     return Request('pair', p, k, g, lent_words(r_len), lent_words(t_len), sums=is_long(r_len, t_len))
 
@@ -220,6 +243,57 @@ def approximant_section():
         type_ = type_word(n, type_rule, seed)
         assert reference.order_of(type_.values) == s
         yield approximant_request(p, n, type_, series_word(p, n, s, zeros, rule, seed), n * n * (s + 1))
+
+
+def set_word(p, n, s, refused, number, seed):
+    """The series of a set begin with 0, 1 or 2 zeros, so that answers differ. Of a refused one the first coefficient is p, or the last the largest number."""
+    own = 100 * seed + number
+    if not refused:
+        return series_word(p, n, s, min(number % 3, s), 1, own)
+    rest = drawn(own, p, n * s - 1)
+    return joined([written([p]), rest] if number % 2 == 0 else [rest, written([TOP])])
+
+
+def drawn_sets(p, n, s, type_rule, sets, refused, seed):
+    """The words of the bases are lent drawn: one that moved to another place shows."""
+    series = joined(set_word(p, n, s, j in refused, j, seed) for j in range(sets))
+    size = sets * n * n * (s + 1)
+    return bases_request(p, n, s, sets, type_word(n, type_rule, seed), series, drawn(seed, 1000, size), lent_words(3 * sets))
+
+
+def times(p, factor, s, series):
+    """Each series times the factor, to order s."""
+    return reference.end_to_end(reference.product(p, factor, f, s) for f in reference.parts(series, s, len(series) // s))
+
+
+def same_sets(p, n, s, type_rule, seed):
+    """A set; the same again; times a constant; times a series whose constant term is not zero; times X; zeros. The first four have one basis, the fifth another."""
+    type_, series = job(p, n, s, type_rule, 0, 1, seed)
+    sets = [series, series] + [times(p, factor, s, series) for factor in (
+        with_constant(p, 0, 100 * seed), with_constant(p, s - 1, 100 * seed + 1), [0, 1], [0])]
+    size = n * n * (s + 1)
+    bases, answers = [0] * (6 * size), [0] * 18
+    reference.bases(p, n, s, 6, type_, reference.end_to_end(sets), bases, answers)
+    found = [tuple(part) for part in reference.parts(bases, size, 6)]
+    assert len(set(found[:4])) == 1 and found[4] != found[0]
+    return bases_request(p, n, s, 6, written(type_), joined(map(written, sets)), lent_words(6 * size), lent_words(18))
+
+
+def sets_section():
+    yield remark("C1's series, a set that is refused, and zeros; then each alone")
+    each = [series for series, _, _ in reference.WORKED_SETS]
+    yield bases_request(7, 2, 3, 3, written([0, 2]), written(reference.end_to_end(each)), lent_words(48), lent_words(9))
+    for series in each:
+        yield basis_request(7, 2, 3, written([0, 2]), written(series), 16)
+    for about, rows in SETS:
+        yield remark(about)
+        for row in rows:
+            yield drawn_sets(*row)
+    yield remark('sixteen sets of zeros')
+    yield bases_request(7, 2, 3, 16, written([0, 2]), repeated(0, 96), lent_words(256), lent_words(48))
+    yield remark('a set; the same again; times a constant; times a series that begins with a constant; times X; zeros')
+    for row in SAME_SETS:
+        yield same_sets(*row)
 
 
 def pair_section():
@@ -318,6 +392,20 @@ APPROXIMANT_CALLS = faults(
     (7, 2, 127, 2, 510, 1024, 0, 127, 0, 6), (7, 2, 127, 2, 510, 1024, 0, 128, 0, 6), (7, 2, 127, 2, 510, 1024, 1, 128, 0, 6),
     (7, 8, 31, 8, 2040, 16384, 0, 31, 0, 6), (7, 8, 31, 8, 2040, 16384, 0, 32, 0, 6), (7, 1, 255, 1, 255, 256, 0, 255, 0, 6)]
 
+BASES_CALLS = faults(
+    dict(p=7, n=2, s=3, sets=2, type_len=2, series_len=12, bases_len=32, answers_len=6, at=0, type_word=0, place=1, series_word=6),
+    [MODULI[:2],
+     [dict(n=0), dict(n=0, type_len=0, series_len=0, bases_len=0), dict(n=9, type_len=9, series_len=54, bases_len=648)],
+     [dict(s=256), dict(s=256, type_len=1), dict(n=1, s=256, type_len=1, series_len=512, bases_len=514)],
+     [dict(sets=17, series_len=102, bases_len=272, answers_len=51), dict(sets=17), dict(sets=17, type_len=1), dict(sets=TOP)],
+     [dict(answers_len=5), dict(answers_len=7), dict(type_len=1), dict(type_len=3), dict(series_len=11), dict(series_len=13), dict(bases_len=31), dict(bases_len=33),
+      dict(sets=1), dict(sets=3), dict(sets=0), dict(type_len=1, type_word=256), dict(series_len=11, type_word=256), dict(bases_len=31, type_word=256)],
+     [dict(at=1, type_word=256), dict(at=0, type_word=256), dict(at=1, type_word=TOP)],
+     [dict(place=11, series_word=7), dict(place=0, series_word=7), dict(place=5, series_word=7), dict(place=6, series_word=TOP)]]) + [  # then no set: the tests of the whole call are made all the same
+    (7, 2, 3, 0, 2, 0, 0, 0, 0, 0, 0, 0), (4, 2, 3, 0, 2, 0, 0, 0, 0, 0, 0, 0), (7, 9, 3, 0, 9, 0, 0, 0, 0, 0, 0, 0), (7, 2, 256, 0, 2, 0, 0, 0, 0, 0, 0, 0),
+    (7, 2, 3, 0, 0, 0, 0, 0, 0, 0, 0, 0), (7, 2, 3, 0, 2, 6, 0, 0, 0, 0, 0, 0), (7, 2, 3, 0, 2, 0, 16, 0, 0, 0, 0, 0), (7, 2, 3, 0, 2, 0, 0, 3, 0, 0, 0, 0),
+    (7, 2, 3, 0, 2, 0, 0, 0, 1, 256, 0, 0)]
+
 PAIR_CALLS = faults(
     dict(p=7, k=2, terms=4, r_len=2, t_len=3, place=1, g_word=6),
     [MODULI,
@@ -356,6 +444,12 @@ def basis_calls_section():
 def approximant_calls_section():
     for p, n, base, type_len, series_len, basis_len, at, entry, place, term in APPROXIMANT_CALLS:
         yield approximant_request(p, n, full_but_one(base, type_len, at, entry), full_but_one(0, series_len, place, term), basis_len, is_long(basis_len))
+
+
+def bases_calls_section():
+    for p, n, s, sets, type_len, series_len, bases_len, answers_len, at, entry, place, term in BASES_CALLS:
+        yield bases_request(p, n, s, sets, full_but_one(0, type_len, at, entry), full_but_one(0, series_len, place, term),
+                            lent_words(bases_len), lent_words(answers_len))
 
 
 def pair_calls_section():
@@ -656,7 +750,7 @@ def basis_text_section():
 
 def refusal_text_section():
     yield remark('refusals, and numbers that are none')
-    for number in (1, 8, 12, 13, 0, 256, TOP):
+    for number in (1, 8, 12, 13, 14, 0, 256, TOP):
         yield Request('refused', number, lent_text(), sums=True)
     yield remark('the length of the text')
     for lengths in TEXT_LENGTHS:
@@ -742,11 +836,11 @@ def word_lines():
 
 
 def argument_lines():
-    yield remark('each call with no words, with one word less, and with one more')
+    yield remark('each call with no words, with one word less, and with one more, which may be a ninth')
     for name in CALLS:
         words = good_words(name)
         for some in [[], words[:-1], words + ['0']] if len(words) > 1 else [[], words + ['0']]:
-            yield Wrong(with_words(name, some), calls.OTHER_ARGUMENTS)
+            yield Wrong(with_words(name, some), calls.OTHER_ARGUMENTS if len(some) <= calls.WORDS else calls.TOO_MANY_WORDS)
     yield remark('each number of each call as a list of two, and of none')
     for name in CALLS:
         words = good_words(name)
@@ -770,10 +864,11 @@ def byte_lines():
     yield Wrong('parse 256 9*7 9*2039', calls.NO_BYTE)
     yield remark('slices for which there is no buffer: bytes, and words that are written')
     for line in ['read 0*9218 9*8 9*2040', 'read 0 9*16386 9*2040', 'read 0 9*8 9*16386', 'refused 8 9*180811', 'print 0*9218 9', 'print 0 9*180811', 'basis 7 2 3 0 0 9*16386',
-                 'approximant 7 2 0 0 9*16386', 'pair 7 1 0 9*16386 9', 'pair 7 1 0 9 9*16386', 'write 7 2 3 0 0 9*9218', 'text 7 2 3 1 0 0 9*180811', 'parse 9*32769 9*8 9*2040',
-                 'parse_line 9*32769', 'block_checks 0*9218']:
+                 'approximant 7 2 0 0 9*16386', 'bases 7 2 3 1 0 0 9*16386 9', 'bases 7 2 3 1 0 0 9 9*16386', 'pair 7 1 0 9*16386 9', 'pair 7 1 0 9 9*16386', 'write 7 2 3 0 0 9*9218',
+                 'text 7 2 3 1 0 0 9*180811', 'parse 9*32769 9*8 9*2040', 'parse_line 9*32769', 'block_checks 0*9218']:
         yield Wrong(line, calls.NO_ROOM)
     yield Request('pair', 7, 1, written([1]), repeated(9, 16385), repeated(9, 16385), sums=True)
+    yield Request('bases', 7, 2, 3, 1, repeated(0, 2), repeated(0, 6), repeated(9, 16385), repeated(9, 16385), sums=True)
     yield Request('refused', 8, repeated(9, 180810), sums=True)
     yield Request('read', repeated(0, 9217), repeated(9, 8), repeated(9, 2040), sums=True)
     yield Request('parse_line', repeated(35, 32768))
@@ -829,10 +924,12 @@ SECTIONS = [
     ("Document 01's worked numbers, C1 to C10", worked_section),
     ('Bases of jobs of every size', basis_section),
     ('Approximants', approximant_section),
+    ('Bases of many sets', sets_section),
     ('Pairs', pair_section),
     ('Pairs of series that are fractions, and of series close to them', fraction_section),
     ('The basis call: a good one, each refusal, and two faults at once for each two tests', basis_calls_section),
     ('The approximant call in the same way', approximant_calls_section),
+    ('The call for many sets in the same way, with two sets and with none', bases_calls_section),
     ('The pair call in the same way', pair_calls_section),
     ('Where the rows of a basis lie', row_section),
     ('Job files written', write_section),

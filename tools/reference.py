@@ -183,6 +183,38 @@ def basis(p, n, s, type_, series, out):
     return solve(p, n, s, type_, series, out)
 
 
+def parts(words, length, count):
+    """The first parts, so many, of words in parts of that length."""
+    return [words[j * length:(j + 1) * length] for j in range(count)]
+
+
+def end_to_end(lists):
+    return [word for words in lists for word in words]
+
+
+def answer_set(p, n, s, type_, series, out):
+    """One set's three words: 0, the least row's number and the count; or its refusal, and out is as lent."""
+    try:
+        return [0, *basis(p, n, s, type_, series, out)]
+    except Refused as refusal:
+        assert refusal.number == 6  # every other test is one of the whole call
+        return [refusal.number, 0, 0]
+
+
+def bases(p, n, s, sets, type_, series, out, answers):
+    """Each set's basis in its part of out, as the basis call gives it, and three words for each set in answers."""
+    test_modulus(p)
+    refuse(2, not 1 <= n <= 8)
+    refuse(3, s > 255)
+    refuse(14, sets > 16)
+    size = n * n * (s + 1)
+    refuse(4, len(type_) != n or len(series) != sets * n * s or len(out) != sets * size or len(answers) != sets * 3)
+    refuse(5, any(d > 255 for d in type_))
+    filled = parts(out, size, sets)
+    answers[:] = end_to_end(answer_set(p, n, s, type_, *of_set) for of_set in zip(parts(series, n * s, sets), filled))
+    out[:] = end_to_end(filled)
+
+
 def order_of(type_):
     return sum(d + 1 for d in type_) - 1
 
@@ -488,6 +520,19 @@ WORKED_PAIRS = [  # p = 7, k = 1: name, g; what the call says, and what r and t 
     ('C9', [0, 1], ('refused 13', [9], [9, 9])),
 ]
 
+WORKED_SETS = [  # C1's p, s and type: series, rows, answer; the second set is refused
+    ([6, 0, 0, 1, 1, 2], ['6 1, 6 2', '6, 6 1 1'], [0, 2, 3]),
+    ([0, 0, 0, 0, 0, 7], None, [6, 0, 0]),
+    ([0, 0, 0, 0, 0, 0], ['1, 0', '0, 1'], [0, 2, 0]),
+]
+
+SETS_ORDER = [  # p, n, s, sets; the lengths of type, series, bases and answers; the type's entries; the refusal, None where there is none
+    (4, 0, 256, 17, 1, 11, 31, 5, 256, 1), (7, 0, 256, 17, 1, 11, 31, 5, 256, 2), (7, 9, 256, 17, 1, 11, 31, 5, 256, 2), (7, 2, 256, 17, 1, 11, 31, 5, 256, 3),
+    (7, 2, 3, 17, 1, 11, 31, 5, 256, 14), (7, 2, 3, 17, 2, 102, 272, 51, 0, 14), (7, 2, 3, 2, 1, 12, 32, 6, 256, 4), (7, 2, 3, 2, 2, 11, 32, 6, 256, 4),
+    (7, 2, 3, 2, 2, 12, 31, 6, 256, 4), (7, 2, 3, 2, 2, 12, 32, 5, 256, 4), (7, 2, 3, 2, 2, 12, 32, 6, 256, 5), (7, 2, 3, 0, 2, 0, 0, 0, 256, 5),
+    (7, 2, 3, 0, 2, 0, 0, 3, 0, 4), (7, 2, 3, 0, 2, 0, 0, 0, 0, None), (7, 2, 3, 2, 2, 12, 32, 6, 255, None), (7, 2, 3, 16, 2, 96, 256, 48, 0, None),
+]
+
 C1_TEXT = '''relations 7 2 3 type 0 2
 row 1 1 1 | 6 1 | 6 2
 row 2 2 0 | 6 | 6 1 1
@@ -529,6 +574,39 @@ def test_worked(check):
     check('checks, word 0 is 4294967295', checks([4294967295] + [0] * 125), (0, 0))
     check('text of C1', relations(layout(7, 2, 3, [0, 2], [6, 0, 0, 1, 1, 2])), C1_TEXT)
     check('largest file', len(layout(2, 8, 255, [0] * 8, [0] * 2040)), 17 * 512)
+
+
+def test_sets(check):
+    """Worked sets; and no coefficient is a residue, so that each refusal of the whole call comes before 6, and a call without one refuses every set."""
+    out, answers = [9] * 48, [9] * 9
+    check('sets', outcome(bases, 7, 2, 3, 3, [0, 2], end_to_end(series for series, _, _ in WORKED_SETS), out, answers), None)
+    check('bases of sets', parts(out, 16, 3), [flat(2, 3, rows) if rows else [9] * 16 for _, rows, _ in WORKED_SETS])
+    check('answers of sets', parts(answers, 3, 3), [words for _, _, words in WORKED_SETS])
+    out, answers = [9] * 3, [9] * 9
+    check('C7 three times', (outcome(bases, 7, 1, 0, 3, [0], [], out, answers), out, answers), (None, [1] * 3, [0, 1, 0] * 3))
+    for p, n, s, sets, type_len, series_len, out_len, answers_len, entry, number in SETS_ORDER:
+        out, answers = [9] * out_len, [9] * answers_len
+        said = outcome(bases, p, n, s, sets, [entry] * type_len, [8] * series_len, out, answers)
+        check(f'order of sets, {number}', (said, out), (f'refused {number}' if number else None, [9] * out_len))
+        check(f'order of sets, {number}, answers', answers, [9] * answers_len if number else [6, 0, 0] * sets)
+
+
+def test_set_by_set(check):
+    """With every choice of refused sets: the basis call on each set alone gives its part and its words. No two words of the bases are lent alike."""
+    for sets, n, s in [(0, 2, 3), (1, 2, 3), (4, 2, 3), (4, 3, 2), (3, 1, 4), (3, 8, 1)]:
+        d, size = list(range(n)), n * n * (s + 1)
+        for refused in itertools.product([False, True], repeat=sets):
+            name = f'{sets} sets {n} {s} {refused}'
+            each = [[(3 * i * i + 5 * j + i * j) % 7 for i in range(n * s)] for j in range(sets)]
+            for j in itertools.compress(range(sets), refused):
+                each[j][j % (n * s)] = 7 + j
+            out, answers = list(range(100, 100 + sets * size)), [9] * (3 * sets)
+            alone = parts(out, size, sets)
+            check(name, outcome(bases, 7, n, s, sets, d, end_to_end(each), out, answers), None)
+            said = [outcome(basis, 7, n, s, d, series, part) for series, part in zip(each, alone)]
+            check(name + ' refused', [one == 'refused 6' for one in said], list(refused))
+            check(name + ' bases', out, end_to_end(alone))
+            check(name + ' answers', parts(answers, 3, sets), [[6, 0, 0] if one == 'refused 6' else [0, *one] for one in said])
 
 
 def leading(vector, d):
@@ -681,6 +759,8 @@ def selftest():
             print(f'{name}: {got}, wanted {wanted}')
 
     test_worked(check)
+    test_sets(check)
+    test_set_by_set(check)
     test_files(check)
     test_texts(check)
     test_text_jobs(check)

@@ -13,16 +13,20 @@
 //! ```
 #![deny(missing_docs)]
 
+mod answers;
 mod misread;
 mod raw;
 mod refusal;
 
+pub use answers::Answers;
 pub use misread::{Cause, Misread};
 use refusal::answered;
 pub use refusal::Refusal;
 
 /// The largest modulus.
 pub const LARGEST: u32 = 2_147_483_647;
+/// How many sets [`bases`] takes at most.
+pub const MOST_SETS: u32 = 16;
 /// How many words [`read_job`] is lent for the type.
 pub const TYPE_WORDS: usize = 8;
 /// How many words [`read_job`] is lent for the series.
@@ -93,6 +97,29 @@ pub fn approximant(p: u32, n: u32, d: &[u32], series: &[u32], basis: &mut [u32])
 
 fn found(answer: [u32; 2]) -> Found {
     Found { least: answer[0], count: answer[1] }
+}
+
+/// Writes the bases of many sets of n series that share p, n, s and the type, each as [`basis`] writes it.
+///
+/// `d` is the type: n words. `series` has sets n s words and `bases` has sets n n (s + 1), both set after set; there may be no sets at all.
+/// Refusals of the whole call: 1, 2, 3, 14, 4, 5. A coefficient that is not below p refuses its own set by 6: that set's part of `bases`
+/// is as lent, and the others are answered.
+///
+/// ```
+/// use relations::{bases, Found, Refusal};
+/// // Two sets modulo 7; in the second a coefficient is not below 7.
+/// let series = [6, 0, 0, 1, 1, 2, /* the second */ 6, 0, 0, 1, 1, 7];
+/// let mut words = [0; 2 * 16];
+/// let answers = bases(7, 2, 3, 2, &[0, 2], &series, &mut words)?;
+/// assert_eq!(*answers, [Ok(Found { least: 2, count: 3 }), Err(Refusal::Coefficient)]);
+/// assert_eq!(relations::row(&words[..16], 2, 3, 2), [6, 0, 0, 0, 6, 1, 1, 0]);
+/// assert_eq!(words[16..], [0; 16]);
+/// # Ok::<(), Refusal>(())
+/// ```
+pub fn bases(p: u32, n: u32, s: u32, sets: u32, d: &[u32], series: &[u32], bases: &mut [u32]) -> Result<Answers, Refusal> {
+    let mut words = [0; answers::MOST_WORDS];
+    let answers = &mut words[..answers::words_for(sets)];
+    answered(raw::bases(p, n, s, sets, d, series, bases, answers)).map(|()| Answers::of(answers))
 }
 
 /// Writes the fraction r / t in lowest terms whose series is g to order N = `g.len()`: r = t g to order N, deg r below k, deg t at most

@@ -32,6 +32,20 @@ mod c {
             answer: *mut u32,
             answer_len: usize,
         ) -> u32;
+        pub fn relations_bases(
+            p: u32,
+            n: u32,
+            s: u32,
+            sets: u32,
+            d: *const u32,
+            d_len: usize,
+            series: *const u32,
+            series_len: usize,
+            bases: *mut u32,
+            bases_len: usize,
+            answers: *mut u32,
+            answers_len: usize,
+        ) -> u32;
         pub fn relations_pair(p: u32, k: u32, g: *const u32, g_len: usize, r: *mut u32, r_len: usize, t: *mut u32, t_len: usize) -> u32;
         pub fn relations_row(n: u32, s: u32, i: u32, basis: *const u32, basis_len: usize, answer: *mut u32, answer_len: usize) -> u32;
         pub fn relations_read(
@@ -139,6 +153,26 @@ pub fn approximant(p: u32, n: u32, d: &[u32], series: &[u32], basis: &mut [u32],
             basis.len(),
             answer.as_mut_ptr(),
             answer.len(),
+        )
+    }
+}
+
+#[allow(clippy::too_many_arguments)]
+pub fn bases(p: u32, n: u32, s: u32, sets: u32, d: &[u32], series: &[u32], bases: &mut [u32], answers: &mut [u32]) -> u32 {
+    unsafe {
+        c::relations_bases(
+            p,
+            n,
+            s,
+            sets,
+            d.as_ptr(),
+            d.len(),
+            series.as_ptr(),
+            series.len(),
+            bases.as_mut_ptr(),
+            bases.len(),
+            answers.as_mut_ptr(),
+            answers.len(),
         )
     }
 }

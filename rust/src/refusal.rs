@@ -2,7 +2,7 @@
 use std::error::Error;
 use std::fmt;
 
-/// Why a call was refused. Every slice is as it was lent.
+/// Why a call was refused, or one set of a call on many. Every slice, or that set's part of the bases, is as it was lent.
 #[derive(Clone, Copy, Debug, PartialEq, Eq, Hash)]
 #[non_exhaustive]
 pub enum Refusal {
@@ -32,6 +32,8 @@ pub enum Refusal {
     SpareWord,
     /// 13: no fraction exists.
     NoFraction,
+    /// 14: the number of sets is above 16.
+    SetCount,
     /// The inverse of zero was asked for; it has no number.
     InverseOfZero,
 }
@@ -40,7 +42,7 @@ pub enum Refusal {
 const NO_INVERSE: u32 = 256;
 
 /// The numbered refusals in the order of their numbers, and their words.
-const NUMBERED: [(Refusal, &str); 13] = [
+const NUMBERED: [(Refusal, &str); 14] = [
     (Refusal::Modulus, "the modulus is below 2, above 2147483647 or composite"),
     (Refusal::SeriesCount, "the number of series is outside 1 to 8"),
     (Refusal::Order, "the order is above 255"),
@@ -54,10 +56,11 @@ const NUMBERED: [(Refusal, &str); 13] = [
     (Refusal::BlockCount, "the block count differs from the header's"),
     (Refusal::SpareWord, "a spare payload word is not zero"),
     (Refusal::NoFraction, "no fraction exists"),
+    (Refusal::SetCount, "the number of sets is above 16"),
 ];
 
 impl Refusal {
-    /// The refusal's number, 1 to 13; the inverse of zero has none.
+    /// The refusal's number, 1 to 14; the inverse of zero has none.
     pub fn number(self) -> Option<u32> {
         NUMBERED.iter().position(|&(refusal, _)| refusal == self).map(|at| at as u32 + 1)
     }

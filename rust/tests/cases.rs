@@ -1,7 +1,7 @@
 //! The worked numbers of the scope paper, every refusal, and properties of drawn jobs.
 use relations::{
-    add, approximant, basis, basis_text, invert, job_text, modulus, multiply, pair, parse_job, read_job, refusal_text, row, write_job,
-    Cause, Found, Job, Misread, Refusal, FILE_BYTES, LARGEST, SERIES_WORDS, TEXT_BYTES, TYPE_WORDS,
+    add, approximant, bases, basis, basis_text, invert, job_text, modulus, multiply, pair, parse_job, read_job, refusal_text, row,
+    write_job, Cause, Found, Job, Misread, Refusal, FILE_BYTES, LARGEST, MOST_SETS, SERIES_WORDS, TEXT_BYTES, TYPE_WORDS,
 };
 
 const UNTOUCHED: u32 = 4_000_000_000;
@@ -83,6 +83,68 @@ fn basis_refusals() {
     for (refusal, p, n, s, shift, series, words) in jobs {
         let mut lent = vec![UNTOUCHED; words];
         assert_eq!(basis(p, n, s, shift, series, &mut lent), Err(refusal));
+        assert!(lent.iter().all(|&w| w == UNTOUCHED));
+    }
+}
+
+/// Each set is answered as the single call answers it; a refused one leaves its part of the bases as lent.
+fn assert_as_alone(p: u32, n: u32, s: u32, sets: u32, shift: &[u32], series: &[u32]) {
+    let mut words = vec![UNTOUCHED; sets as usize * size(n, s)];
+    let answers = bases(p, n, s, sets, shift, series, &mut words).unwrap();
+    assert_eq!(answers.len(), sets as usize);
+    let length = (n * s) as usize;
+    for (j, (answer, words)) in answers.iter().zip(words.chunks(size(n, s))).enumerate() {
+        assert_eq!((*answer, words.to_vec()), solve(p, n, s, shift, &series[j * length..(j + 1) * length]));
+    }
+}
+
+#[test]
+fn many_sets() {
+    let c1 = [6, 0, 0, 1, 1, 2];
+    let (answer, words) = solve(7, 2, 3, &[0, 2], &c1);
+    let mut lent = [UNTOUCHED; 3 * 16];
+    let answers = bases(7, 2, 3, 3, &[0, 2], &[c1, [6, 0, 0, 1, 1, 7], c1].concat(), &mut lent).unwrap();
+    assert_eq!(*answers, [answer, Err(Refusal::Coefficient), answer]);
+    assert_eq!(lent[..], [&words[..], &[UNTOUCHED; 16], &words].concat());
+    assert_eq!(format!("{:?}", answers), format!("{:?}", [answer, Err(Refusal::Coefficient), answer]));
+
+    let mut draw = Draw(2_330_089_441);
+    for sets in 0..=MOST_SETS {
+        let mut series: Vec<u32> = (0..sets * 10).map(|_| draw.below(31)).collect();
+        assert_as_alone(31, 2, 0, sets, &[0, 2], &[]);
+        assert_as_alone(31, 2, 5, sets, &[0, 2], &series);
+        for j in 0..sets as usize {
+            let mut spoiled = series.clone();
+            spoiled[10 * j + 9 * (j % 2)] = 31;
+            assert_as_alone(31, 2, 5, sets, &[0, 2], &spoiled);
+        }
+        series.iter_mut().step_by(10).for_each(|c| *c = 31);
+        assert_as_alone(31, 2, 5, sets, &[0, 2], &series);
+    }
+}
+
+/// Each refusal of the whole call, alone and before every later one; the bases are as lent.
+#[test]
+fn many_sets_refusals() {
+    let jobs: [(Refusal, u32, u32, u32, u32, &[u32], &[u32], usize); 14] = [
+        (Refusal::Modulus, 9, 0, 256, 17, &[256], &[9], 0),
+        (Refusal::SeriesCount, 7, 0, 256, 17, &[256], &[9], 0),
+        (Refusal::SeriesCount, 7, 9, 256, 17, &[256], &[9], 0),
+        (Refusal::Order, 7, 2, 256, 17, &[256], &[9], 0),
+        (Refusal::SetCount, 7, 2, 1, 17, &[256], &[9], 0),
+        (Refusal::SetCount, 7, 2, 1, u32::MAX, &[256], &[9], 0),
+        (Refusal::SetCount, 7, 2, 1, 17, &[0, 0], &[0; 34], 136),
+        (Refusal::Length, 7, 2, 1, 2, &[256], &[9; 4], 16),
+        (Refusal::Length, 7, 2, 1, 2, &[256, 0], &[9; 3], 16),
+        (Refusal::Length, 7, 2, 1, 2, &[256, 0], &[9; 4], 15),
+        (Refusal::Length, 7, 2, 1, 0, &[256, 0], &[], 8),
+        (Refusal::TypeEntry, 7, 2, 1, 2, &[0, 256], &[9; 4], 16),
+        (Refusal::TypeEntry, 7, 2, 1, 0, &[0, 256], &[], 0),
+        (Refusal::TypeEntry, 7, 2, 1, 16, &[256, 0], &[0; 32], 128),
+    ];
+    for (refusal, p, n, s, sets, shift, series, words) in jobs {
+        let mut lent = vec![UNTOUCHED; words];
+        assert_eq!(bases(p, n, s, sets, shift, series, &mut lent), Err(refusal));
         assert!(lent.iter().all(|&w| w == UNTOUCHED));
     }
 }
@@ -221,15 +283,15 @@ fn text_jobs() {
 
 #[test]
 fn refusals_in_words() {
-    let mut texts: Vec<String> = (1..=13).map(|k| Refusal::from_number(k).unwrap().to_string()).collect();
+    let mut texts: Vec<String> = (1..=14).map(|k| Refusal::from_number(k).unwrap().to_string()).collect();
     for (k, text) in texts.iter().enumerate() {
         assert!(text.starts_with(&format!("refused {}: ", k + 1)));
         assert_eq!(Refusal::from_number(k as u32 + 1).unwrap().number(), Some(k as u32 + 1));
     }
     texts.sort();
     texts.dedup();
-    assert_eq!(texts.len(), 13);
-    assert_eq!((Refusal::from_number(0), Refusal::from_number(14)), (None, None));
+    assert_eq!(texts.len(), 14);
+    assert_eq!((Refusal::from_number(0), Refusal::from_number(15)), (None, None));
     assert_eq!(Refusal::InverseOfZero.to_string(), "zero has no inverse");
     assert_eq!(Refusal::InverseOfZero.number(), None);
 }

@@ -8,6 +8,7 @@ pub enum Call {
     Invert,
     Basis,
     Approximant,
+    Bases,
     Pair,
     Row,
     BlockChecks,
@@ -43,6 +44,9 @@ fn engine_call(name: &[u8]) -> Call {
     }
     if is_named(name, b"approximant") {
         return Call::Approximant;
+    }
+    if is_named(name, b"bases") {
+        return Call::Bases;
     }
     if is_named(name, b"pair") {
         return Call::Pair;

@@ -82,6 +82,7 @@ pub fn takes(call: Call, v: &[u32], e: &[usize], line: usize) -> bool {
         Call::Invert => fits(v, e, 2, b"", line),
         Call::Basis => fits(v, e, 3, b"wwW", line),
         Call::Approximant => fits(v, e, 2, b"wwW", line),
+        Call::Bases => fits(v, e, 4, b"wwWW", line),
         Call::Pair => fits(v, e, 2, b"wWW", line),
         Call::Row => fits(v, e, 3, b"w", line),
         Call::BlockChecks => fits(v, e, 0, b"b", line),

@@ -18,6 +18,7 @@ fn run_call(call: Call, v: &[u32], e: &[usize], short: bool) {
         Call::Invert => run::invert(v),
         Call::Basis => run::basis(v, e, short),
         Call::Approximant => run::approximant(v, e, short),
+        Call::Bases => run::bases(v, e, short),
         Call::Pair => run::pair(v, e, short),
         Call::Row => run::row(v, e, short),
         Call::BlockChecks => run::block_checks(v, e),

@@ -81,6 +81,29 @@ pub fn approximant(v: &[u32], e: &[usize], short: bool) {
     say::with_words(status, told, basis, short);
 }
 
+fn call_bases(v: &[u32], d: &[u32], series: &[u32], bases: &mut [u32], answers: &mut [u32]) -> u32 {
+    embed::relations_bases(
+        number(v, 0),
+        number(v, 1),
+        number(v, 2),
+        number(v, 3),
+        d,
+        series,
+        bases,
+        answers,
+    )
+}
+
+pub fn bases(v: &[u32], e: &[usize], short: bool) {
+    let mut first = [9u32; WORDS];
+    let mut second = [9u32; WORDS];
+    let bases = lend(argument(v, e, 6), &mut first);
+    let answers = lend(argument(v, e, 7), &mut second);
+    let status = call_bases(v, argument(v, e, 4), argument(v, e, 5), bases, answers);
+    say::status(status);
+    say::two_buffers(bases, answers, short);
+}
+
 fn call_pair(v: &[u32], g: &[u32], r: &mut [u32], t: &mut [u32]) -> u32 {
     embed::relations_pair(number(v, 0), number(v, 1), g, r, t)
 }

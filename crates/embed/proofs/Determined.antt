@@ -8,6 +8,7 @@ use Rattle.field.specs.Calls.{MakeOutcome, AddOutcome, MultiplyOutcome, InvertO
 use Rattle.field.proofs.Refusal.{same-outcome}
 use Rattle.engine.specs.Basis.{BasisOutcome}
 use Rattle.engine.specs.Approximant.{ApproximantOutcome}
+use Rattle.sets.specs.Bases.{BasesOutcome}
 use Rattle.pade.specs.Pair.{PairOutcome}
 use Rattle.jobfile.specs.Outcomes.{ReadOutcome, WriteOutcome}
 use Rattle.report.specs.Calls.{BasisTextOutcome, RefusalTextOutcome}
@@ -18,7 +19,7 @@ use Rattle.embed.specs.Lengths.{residueAnswerLength, countAnswerLength, 
 use Rattle.embed.specs.Given.{Told, Given, answerOrder}
 use Rattle.embed.specs.RowAt.{RowSaid}
 use Rattle.embed.specs.Parsing.{faultLine, ParseOutcome}
-use Rattle.embed.proofs.Unique.{One, NoBuffers, make-one, residue-one, invert-one, basis-one, approximant-one, pair-one, row-one, read-one, write-one, parse-one, text-one, refused-one, print-one}
+use Rattle.embed.proofs.Unique.{One, NoBuffers, make-one, residue-one, invert-one, basis-one, approximant-one, bases-one, pair-one, row-one, read-one, write-one, parse-one, text-one, refused-one, print-one}
 
 -- how a call ends: its status, and what its buffers hold
 pub record End (B : Type 0) : Type 0 where
@@ -132,6 +133,10 @@ module _ (lent : List ℕ) where
       → Determined
       (λ (e : AnswerEnd (List ℕ × List ℕ)). Given jobAnswerLength (ParseOutcome text d F (e .buffers .0) (e .buffers .1)) ((e .buffers .0 ≡ d) × (e .buffers .1 ≡ F)) lent (e .status) (e .answer))
   parse-determined text d F = given-determined _ (parse-one text d F) _ _ lent (two-lent d F)
+
+pub bases-determined : (p n s sets : ℕ) (d F bases answers : List ℕ)
+    → Determined (λ (e : End (List ℕ × List ℕ)). Told (λ said. BasesOutcome p n s sets d F bases answers said (e .buffers .0) (e .buffers .1)) (e .status))
+bases-determined p n s sets d F bases answers = told-determined _ (bases-one p n s sets d F bases answers)
 
 pub pair-determined : (p k : ℕ) (g r t : List ℕ)
     → Determined (λ (e : End (List ℕ × List ℕ)). Told (λ said. PairOutcome p k g r t said (e .buffers .0) (e .buffers .1)) (e .status))

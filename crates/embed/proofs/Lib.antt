@@ -1,5 +1,4 @@
 -- Lemmas and theorems of the exported calls.
-pub mod Words
 pub mod Given
 pub mod RowAt
 pub mod Text

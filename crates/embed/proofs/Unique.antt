@@ -17,6 +17,10 @@ use Rattle.engine.specs.Basis.{BasisOutcome}
 use Rattle.engine.specs.Approximant.{ApproximantOutcome}
 use Rattle.engine.proofs.Unique.{basis-unique, approximant-unique}
 use Rattle.engine.proofs.View.{fits-decided}
+use Rattle.sets.specs.declared.BasesAnswer.{BasesAnswer}
+use Rattle.sets.specs.Answer.{basesSays}
+use Rattle.sets.specs.Bases.{BasesOutcome}
+use Rattle.sets.proofs.Unique.{bases-unique}
 use Rattle.pade.specs.declared.PairAnswer.{PairAnswer}
 use Rattle.pade.specs.Answer.{pairSays}
 use Rattle.pade.specs.Pair.{PairOutcome}
@@ -81,6 +85,12 @@ unfolding ApproximantOutcome Outcome
 approximant-said p n d F lent left said (inl a) = (BasisAnswer.Found (record { least = a .1 .answered .least + 1; count = a .1 .answered .count }), sym (a .1 .answered .says))
 approximant-said p n d F lent left said (inr b) = (BasisAnswer.Refused (b .0), sym (b .2 .0))
 
+bases-said : (p n s sets : ℕ) (d F lent words left answers : List ℕ) (said : Answer) → BasesOutcome p n s sets d F lent words said left answers
+    → (r : BasesAnswer) × (basesSays r ≡ said)
+unfolding BasesOutcome Outcome
+bases-said p n s sets d F lent words left answers said (inl a) = (BasesAnswer.Answered, sym (a .1 .0))
+bases-said p n s sets d F lent words left answers said (inr b) = (BasesAnswer.Refused (b .0), sym (b .2 .0))
+
 pair-said : (p k : ℕ) (g r t r₁ t₁ : List ℕ) (said : Answer) → PairOutcome p k g r t said r₁ t₁ → (a : PairAnswer) × (pairSays a ≡ said)
 unfolding PairOutcome Outcome
 pair-said p k g r t r₁ t₁ said (inl a) = (PairAnswer.Written, sym (a .1 .0))
@@ -114,6 +124,11 @@ basis-one p n s d F lent = by-answers basisSays _ (basis-said p n s d F lent) (b
 
 pub approximant-one : (p n : ℕ) (d F lent : List ℕ) → One (λ left said. ApproximantOutcome p n d F lent said left)
 approximant-one p n d F lent = by-answers basisSays _ (approximant-said p n d F lent) (approximant-unique p n d F lent)
+
+pub bases-one : (p n s sets : ℕ) (d F lent words : List ℕ) → One (λ (b : List ℕ × List ℕ) said. BasesOutcome p n s sets d F lent words said (b .0) (b .1))
+bases-one p n s sets d F lent words =
+    by-answers basesSays _ (λ b. bases-said p n s sets d F lent words (b .0) (b .1)) (λ a a′ b b′ h h′.
+    two (bases-unique p n s sets d F lent words a a′ (b .0) (b .1) (b′ .0) (b′ .1) h h′))
 
 pub pair-one : (p k : ℕ) (g r t : List ℕ) → One (λ (b : List ℕ × List ℕ) said. PairOutcome p k g r t said (b .0) (b .1))
 pair-one p k g r t =

@@ -7,6 +7,7 @@ ghost use Rattle.field.specs.Calls.{residueSays, inverseSays, MakeOutcome, AddO
 ghost use Rattle.engine.specs.Answers.{basisSays};
 ghost use Rattle.engine.specs.Basis.{BasisOutcome};
 ghost use Rattle.engine.specs.Approximant.{ApproximantOutcome};
+ghost use Rattle.sets.specs.Bases.{BasesOutcome};
 ghost use Rattle.pade.specs.Pair.{PairOutcome};
 ghost use Rattle.jobfile.specs.Answers.{jobSays, writeSays};
 ghost use Rattle.jobfile.specs.Outcomes.{ReadOutcome, WriteOutcome};
@@ -32,6 +33,7 @@ use jobtext::Parsed;
 use jobtext::Slip;
 use pade::PairAnswer;
 use report::TextAnswer;
+use sets::BasesAnswer;
 use sizes::JobSizes;
 
 // The status of the inverse of zero, which has no number.
@@ -230,6 +232,25 @@ pub extern "C" fn relations_basis(
         return OTHER_LENGTH;
     }
     tell_basis(engine::basis(p, n, s, d, series, basis), answer)
+}
+
+#[no_mangle]
+pub extern "C" fn relations_bases(
+    p: u32,
+    n: u32,
+    s: u32,
+    sets: u32,
+    d: &[u32],
+    series: &[u32],
+    bases: &mut [u32],
+    answers: &mut [u32],
+) -> u32
+    ensures { λ k. ⌜ Told (λ said. BasesOutcome p n s sets (now (d .entry)) (now (series .entry)) (now (bases .entry)) (now (answers .entry)) said (now (bases .exit)) (now (answers .exit))) k ⌝ }
+{
+    match sets::bases(p, n, s, sets, d, series, bases, answers) {
+        BasesAnswer::Answered => 0,
+        BasesAnswer::Refused(k) => k,
+    }
 }
 
 #[no_mangle]

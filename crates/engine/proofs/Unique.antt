@@ -43,12 +43,17 @@ module _ {B : Type 0} (o : Order) (said said′ : Answer) (lent left left′ : B
         | inr b ↦ (b .1 .0 ∙ sym (b .2 .0), b .1 .1 ∙ sym (b .2 .1))
       ]
 
+-- whatever says the answers
+pub basis-same : (p n s : ℕ) (d F lent : List ℕ) (said said′ : Answer) (left left′ : List ℕ)
+    → BasisOutcome p n s d F lent said left → BasisOutcome p n s d F lent said′ left′ → (said ≡ said′) × (left ≡ left′)
+unfolding BasisOutcome
+basis-same p n s d F lent said said′ left left′ =
+    outcomes-same _ said said′ lent left left′ _ _ (λ t a b. answered-same (basis-sizes p n s d F (length lent) t .n-from) a b)
+
 pub basis-unique : (p n s : ℕ) (d F lent : List ℕ) (r r′ : BasisAnswer) (left left′ : List ℕ)
     → BasisOutcome p n s d F lent (basisSays r) left → BasisOutcome p n s d F lent (basisSays r′) left′ → (r ≡ r′) × (left ≡ left′)
-unfolding BasisOutcome
 basis-unique p n s d F lent r r′ left left′ h h′ =
-    let q = outcomes-same _ (basisSays r) (basisSays r′) lent left left′ _ _ (λ t a b.
-    answered-same (basis-sizes p n s d F (length lent) t .n-from) a b) h h′ in
+    let q = basis-same p n s d F lent (basisSays r) (basisSays r′) left left′ h h′ in
     (basis-told r r′ (q .0), q .1)
 
 pub approximant-unique : (p n : ℕ) (d F lent : List ℕ) (r r′ : BasisAnswer) (left left′ : List ℕ)

@@ -152,7 +152,15 @@ pub fn row_view(basis: &[u32], n: u32, s: u32, i: u32) -> &[u32]
     }
 }
 
-fn answered(f: Field, n: usize, s: usize, d: &[u32], series: &[u32], out: &mut [u32]) -> BasisAnswer
+// What every call for a basis gives once its tests have passed.
+pub fn answered(
+    f: Field,
+    n: usize,
+    s: usize,
+    d: &[u32],
+    series: &[u32],
+    out: &mut [u32],
+) -> BasisAnswer
     requires { ⌜ Sizes (f .modulus) n s (now d) (now series) (length (now out)) ⌝ }
     ensures { λ r. ⌜ BasisAnswered (f .modulus) n s (now (d .entry)) (now (series .entry)) (now (out .exit)) (basisSays r) ⌝ }
 {

@@ -48,6 +48,12 @@ unfolding First NoTest
 first-right [] o′ k a b = b
 first-right (l ∷ o) o′ k a b = inr (a .0, first-right o o′ k (a .1) b)
 
+-- an outcome after tests none of which holds
+pub outcome-after : (o o′ : Order) (R : ℕ → Type 0) (A : Type 0) → NoTest o → Outcome o′ R A → Outcome (o ++ o′) R A
+unfolding Outcome
+outcome-after o o′ R A n (inl a) = inl (none-both o o′ n (a .0), a .1)
+outcome-after o o′ R A n (inr b) = inr (b .0, first-right o o′ (b .0) n (b .1), b .2)
+
 -- an outcome where no test holds is an answer
 pub answer : (o : Order) (R : ℕ → Type 0) (A : Type 0) → Outcome o R A → NoTest o → A
 unfolding Outcome

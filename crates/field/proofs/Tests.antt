@@ -8,7 +8,7 @@ use Rattle.field.specs.declared.Tested.{Tested}
 use Rattle.field.specs.Refusal.{Line, Order, _when_, NoTest, First, Outcome}
 use Rattle.field.specs.Calls.{Tests, operandOrder}
 use Rattle.field.specs.Modulus.{Modulus}
-use Rattle.field.proofs.Refusal.{none-both, first-left, first-right}
+use Rattle.field.proofs.Refusal.{first-left, outcome-after}
 use Rattle.field.proofs.ModulusTest.{modulus-decided}
 
 pub passed : (o : Order) (t : Tested) → Tests o t → t ≡ Tested.Passed → NoTest o
@@ -43,9 +43,7 @@ no-more = inl (tt, refl)
 module _ (o o′ : Order) (t : Tested) (h : Tests o t) where
   -- o passed, and o′ is tested
   pub and-then : (t′ : Tested) → t ≡ Tested.Passed → Tests o′ t′ → Tests (o ++ o′) t′
-  unfolding Outcome
-  and-then t′ e (inl a) = inl (none-both o o′ (passed o t h e) (a .0), a .1)
-  and-then t′ e (inr b) = inr (b .0, first-right o o′ (b .0) (passed o t h e) (b .1), b .2)
+  and-then t′ e = outcome-after o o′ _ _ (passed o t h e)
 
   -- o is refused
   pub and-stop : (k : ℕ) → t ≡ Tested.Refused k → Tests (o ++ o′) (Tested.Refused k)

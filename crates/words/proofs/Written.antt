@@ -1,9 +1,11 @@
 -- Loops that write a list from the front, word by word or part by part: what was passed holds the new, what is left the old.
 --   Written, written-none, below-turn, written-turn   word by word
 --   PartsDone, parts-none, parts-turn, parts-skip   part by part, for parts of w words
-use mathlib.Core.Path.{_≡_, refl, _∙_}
-use mathlib.Core.List.{List}
-use Prim.Native.Nat.{ℕ, _+_, _*_, _≤_, _<_}
+--   parts-turn-two                                 in two lists at once
+--   setFrom, all-set                               all words of a short list, one after the other
+use mathlib.Core.Path.{_≡_, refl, ap, _∙_}
+use mathlib.Core.List.{List, [], _∷_}
+use Prim.Native.Nat.{ℕ, suc, _+_, _*_, _≤_, _<_}
 use native.Mathlib.Decide.{ℕ-discrete}
 use native.Mathlib.Omega.{arith}
 use lib.ListN.{length, getD, set, length-set}
@@ -65,3 +67,30 @@ parts-skip w Done first xs k d p = record {
   ];
   left = λ l h. p .left l (omega arith);
 }
+
+-- part k of both lists at once, where what a part has to be depends on the other list's part
+pub parts-turn-two : (w v : ℕ) (Done : ℕ → List ℕ → List ℕ → Type 0) (first xs ys out zs : List ℕ) (k : ℕ)
+    → k * w + w ≤ length xs → length ys ≡ w → k * v + v ≤ length out → length zs ≡ v → Done k ys zs
+    → PartsDone w (λ l part-l. Done l part-l (part v l out)) first xs k
+    → PartsDone w (λ l part-l. Done l part-l (part v l (put v k out zs))) first (put w k xs ys) (k + 1)
+parts-turn-two w v Done first xs ys out zs k fits full fits′ full′ d p =
+    parts-turn w (λ l part-l. Done l part-l (part v l (put v k out zs))) first xs ys k fits full (rw (put-same v k out zs fits′ full′) d) record {
+      same = p .same;
+      done = λ l h. rw (put-other v k out zs fits′ full′ l (omega arith)) (p .done l h);
+      left = p .left;
+    }
+
+-- words written in turn from place i on
+abbrev pub setFrom : List ℕ → ℕ → List ℕ → List ℕ
+setFrom l i [] = l
+setFrom l i (w ∷ ws) = setFrom (set l i w) (suc i) ws
+
+past : (x : ℕ) (l : List ℕ) (i : ℕ) (ws : List ℕ) → setFrom (x ∷ l) (suc i) ws ≡ x ∷ setFrom l i ws
+past x l i [] = refl
+past x l i (w ∷ ws) = past x (set l i w) (suc i) ws
+
+pub all-set : (l ws : List ℕ) → length l ≡ length ws → setFrom l 0 ws ≡ ws
+all-set [] [] e = refl
+all-set (x ∷ l) [] e = absurd (omega (arith, e))
+all-set [] (w ∷ ws) e = absurd (omega (arith, e))
+all-set (x ∷ l) (w ∷ ws) e = past w l 0 ws ∙ ap (λ (r : List ℕ). w ∷ r) (all-set l ws (omega (arith, e)))

@@ -6,7 +6,7 @@ use Prim.Native.Nat.{ℕ, _*_, _-_}
 use native.Mathlib.Nat.{mul-zero}
 use native.Mathlib.Omega.{arith}
 use lib.ListN.{length}
-use Rattle.embed.proofs.Words.{all-set}
+use Rattle.words.proofs.Written.{all-set}
 use Rattle.embed.proofs.Given.{other-length, given}
 use Rattle.embed.proofs.RowAt.{view-fits, view-small, row-said}
 use borrow.Author.Needs.{needs}

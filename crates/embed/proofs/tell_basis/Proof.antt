@@ -1,7 +1,7 @@
 -- Both words of a result are written; on a refusal none is.
 use mathlib.Core.Path.{refl}
 use mathlib.Core.List.{[], _∷_}
-use Rattle.embed.proofs.Words.{all-set}
+use Rattle.words.proofs.Written.{all-set}
 use borrow.Author.Needs.{needs}
 use Rattle.embed.proofs.tell_basis.Statement.{statement}
 use Rattle.embed.proofs.tell_basis.Tie as tie

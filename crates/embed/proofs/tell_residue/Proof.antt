@@ -1,7 +1,7 @@
 -- A result's word is written; else nothing is.
 use mathlib.Core.Path.{refl}
 use mathlib.Core.List.{[], _∷_}
-use Rattle.embed.proofs.Words.{all-set}
+use Rattle.words.proofs.Written.{all-set}
 use borrow.Author.Needs.{needs}
 use Rattle.embed.proofs.tell_residue.Statement.{statement}
 use Rattle.embed.proofs.tell_residue.Tie as tie

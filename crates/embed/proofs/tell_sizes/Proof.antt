@@ -1,6 +1,6 @@
 -- The three words fill the answer slice.
 use mathlib.Core.List.{[], _∷_}
-use Rattle.embed.proofs.Words.{all-set}
+use Rattle.words.proofs.Written.{all-set}
 use borrow.Author.Needs.{needs}
 use Rattle.embed.proofs.tell_sizes.Statement.{statement}
 use Rattle.embed.proofs.tell_sizes.Tie as tie

@@ -4,7 +4,7 @@ use mathlib.Core.List.{[], _∷_}
 use Prim.Native.Nat.{_≤_}
 use native.Mathlib.Omega.{arith}
 use Rattle.report.specs.Calls.{textBytes}
-use Rattle.embed.proofs.Words.{all-set}
+use Rattle.words.proofs.Written.{all-set}
 use borrow.Author.Needs.{needs}
 use Rattle.embed.proofs.tell_text.Statement.{statement}
 use Rattle.embed.proofs.tell_text.Tie as tie
