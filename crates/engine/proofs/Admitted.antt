@@ -1,16 +1,18 @@
 -- What is known where no test of a call holds.
 use mathlib.Core.Path.{_≡_}
-use mathlib.Core.List.{List, _++_}
-use Prim.Native.Nat.{ℕ}
+use mathlib.Core.Logic.{_⊎_, _≢_}
+use mathlib.Core.List.{List, _∷_, _++_}
+use Prim.Native.Nat.{ℕ, _*_}
 use native.Mathlib.Omega.{arith}
 use lib.ListN.{length}
-use Rattle.field.specs.Refusal.{NoTest}
-use Rattle.field.proofs.Refusal.{none-left, none-right}
-use Rattle.field.proofs.Truth.{same-of, neither}
+use Rattle.field.specs.Refusal.{Order, NoTest, Outcome, _when_}
+use Rattle.field.proofs.Refusal.{none-both, none-left, none-right, outcome-after}
+use Rattle.field.proofs.Truth.{same-of, exact, neither, no-either}
 use Rattle.words.specs.Some.{Some}
 use Rattle.sizes.specs.Entry.{EntryOutside}
-use Rattle.sizes.specs.Orders.{startOrder, sizesOrder}
-use Rattle.sizes.proofs.Passed.{start-passed, sizes-passed, job-passed}
+use Rattle.sizes.specs.Lengths.{basisLength}
+use Rattle.sizes.specs.Orders.{startOrder, sizesOrder, entriesOrder, coefficientsOrder}
+use Rattle.sizes.proofs.Passed.{start-passed, sizes-passed, sizes-pass, job-passed}
 use Rattle.solve.specs.Sizes.{Sizes}
 use Rattle.engine.specs.Sigma.{orderOf}
 use Rattle.engine.specs.Orders.{buffersOrder, basisOrder, typeOrder, seriesOrder, approximantOrder}
@@ -31,6 +33,21 @@ basis-sizes p n s d series basis t =
       basis-words = same-of _ _ (buffers .0);
       entries = job .2;
     }
+
+-- the single call's tests of lengths and entries
+abbrev lent : ℕ → ℕ → List ℕ → List ℕ → ℕ → Order
+lent n s d series basis = (4 when (basis ≢ basisLength n s)) ∷ (4 when ((length d ≢ n) ⊎ (length series ≢ n * s))) ∷ entriesOrder d
+
+lent-pass : {p n s : ℕ} {d series : List ℕ} {basis : ℕ} → Sizes p n s d series basis → NoTest (lent n s d series basis)
+unfolding NoTest
+lent-pass z = (exact (z .basis-words), (no-either (exact (z .type-words)) (exact (z .series-words)), (z .entries, tt)))
+
+-- with the sizes admitted only 6 is left to test
+pub only-coefficients : (p n s : ℕ) (d series : List ℕ) (basis : ℕ) → Sizes p n s d series basis → (R : ℕ → Type 0) (A : Type 0)
+    → Outcome (coefficientsOrder p series) R A → Outcome (basisOrder p n s d series basis) R A
+only-coefficients p n s d series basis z R A =
+    outcome-after (sizesOrder p n s ++ lent n s d series basis) (coefficientsOrder p series) R A
+    (none-both (sizesOrder p n s) (lent n s d series basis) (sizes-pass (z .modulus) (z .n-from) (z .n-to) (z .s-to)) (lent-pass z))
 
 pub type-passed : (n : ℕ) (d : List ℕ) → NoTest (typeOrder n d) → (length d ≡ n) × (¬ (Some EntryOutside d))
 unfolding NoTest

@@ -70,11 +70,15 @@ same-outcome o R R′ A A′ (inr a) (inl b) = absurd (first-or-none o (a .0) (a
 same-outcome o R R′ A A′ (inr a) (inr b) =
     inr (a .0, a .2, rw (first-unique o (a .0) (b .0) (a .1) (b .1)) (b .2))
 
+-- a refusal is no result
+pub no-result-refused : {ws : List ℕ} {k : ℕ} → ¬ (result ws ≡ refusal k)
+no-result-refused e = let z : _≡_ {A = ℕ} 0 1 = cc in omega arith
+
 -- an answer that is no refusal: the call was admitted
 pub admitted : (o : Order) (R : ℕ → Type 0) (A : Type 0) (ws : List ℕ) → ((k : ℕ) → R k → result ws ≡ refusal k) → Outcome o R A → NoTest o × A
 unfolding Outcome
 admitted o R A ws says (inl a) = a
-admitted o R A ws says (inr b) = absurd (let h : result ws ≡ refusal (b .0) = says (b .0) (b .2) in let z : _≡_ {A = ℕ} 0 1 = cc in omega arith)
+admitted o R A ws says (inr b) = absurd (no-result-refused (says (b .0) (b .2)))
 
 -- an answer keeps that no test holds
 pub keep : (o : Order) (R : ℕ → Type 0) (A : Type 0) → Outcome o R A → Outcome o R (NoTest o × A)

@@ -13,6 +13,7 @@ use Rattle.words.specs.Some.{Some}
 use Rattle.sizes.specs.Entry.{EntryOutside}
 use Rattle.sizes.specs.Orders.{sizesOrder}
 use Rattle.sizes.proofs.Entry.{none-outside}
+use Rattle.sizes.proofs.Passed.{sizes-pass}
 use Rattle.words.proofs.Sizes.{series-small}
 use Rattle.block.specs.Bytes.{Words}
 use Rattle.block.specs.Part.{blocksIn, payloadAt, payloadPart}
@@ -105,9 +106,7 @@ module _ (j : Job) (a : Admitted j) where
 
   -- no test of the reader holds
   pub layout-sizes : NoTest (sizesOrder (j .p) (j .n) (j .s))
-  unfolding NoTest
-  layout-sizes =
-      ((λ no-modulus. no-modulus (a .modulus)), (no-either (omega (arith, a .n-from)) (omega (arith, a .n-to)), (omega (arith, a .s-to), tt)))
+  layout-sizes = sizes-pass (a .modulus) (a .n-from) (a .n-to) (a .s-to)
 
   layout-counted : NoTest (countTests (layout j) (wordCount (j .n) (j .s)))
   unfolding layout

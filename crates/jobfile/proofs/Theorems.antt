@@ -11,8 +11,8 @@ use native.Mathlib.Omega.{arith}
 use lib.ListN.{length, take}
 use lib.Seq.{take-at}
 use Rattle.field.specs.Refusal.{NoTest, Outcome}
-use Rattle.field.specs.Answer.{Answer, result, refusal}
-use Rattle.field.proofs.Refusal.{same-outcome, none-both, answer}
+use Rattle.field.specs.Answer.{Answer, result}
+use Rattle.field.proofs.Refusal.{same-outcome, none-both, answer, no-result-refused}
 use Rattle.sizes.specs.declared.JobSizes.{JobSizes}
 use Rattle.block.specs.File.{blocksFor}
 use Rattle.block.specs.Part.{blocksIn}
@@ -52,10 +52,6 @@ write-told (WriteAnswer.Blocks m) (WriteAnswer.Refused k) e = cc
 write-told (WriteAnswer.Refused k) (WriteAnswer.Blocks m) e = cc
 write-told (WriteAnswer.Refused k) (WriteAnswer.Refused k′) e = cc
 
--- a refusal is no result
-no-result : {A : Type 0} (k : ℕ) (l : List ℕ) → result l ≡ refusal k → A
-no-result k l e = absurd (let z : _≡_ {A = ℕ} 0 1 = cc in omega arith)
-
 -- what is said and written of a job, by any name of it
 of-job : {file d series : List ℕ} {said : Answer} {d′ series′ : List ℕ} (r : JobRead file d series said d′ series′) (j : Job) → r .job ≡ j
     → (said ≡ result (j .p ∷ j .n ∷ j .s ∷ [])) × (d′ ≡ over (j .d) d) × (series′ ≡ over (j .series) series)
@@ -79,7 +75,7 @@ module _ (file d series : List ℕ) (said : Answer) (d′ series′ : List ℕ) 
   -- and nothing else is
   pub reads-only-layouts : (l : List ℕ) → said ≡ result l → JobRead file d series said d′ series′
   unfolding ReadOutcome Outcome
-  reads-only-layouts l e = elim o [ inl a ↦ a .1 | inr b ↦ no-result (b .0) l (sym e ∙ b .2 .0) ]
+  reads-only-layouts l e = elim o [ inl a ↦ a .1 | inr b ↦ absurd (no-result-refused (sym e ∙ b .2 .0)) ]
 
 same-read : {file d series : List ℕ} {said said′ : Answer} {d₁ series₁ d₂ series₂ : List ℕ}
     → JobRead file d series said d₁ series₁ → JobRead file d series said′ d₂ series₂ → (said ≡ said′) × (d₁ ≡ d₂) × (series₁ ≡ series₂)
@@ -127,7 +123,7 @@ module _ (p n s : ℕ) (d series out : List ℕ) (said : Answer) (out′ : List 
         let is : m ≡ blocksFor (length (wordsOf j)) = told (sym e ∙ w .says) in
         let full : length (layout j) ≡ 512 * m = length-layout j ok ∙ ap (λ (k : ℕ). 512 * k) (ap blocksFor (sym (length-words j ok)) ∙ sym is) in
         (ok, ap (take (512 * m)) (w .file-written) ∙ take-at (layout j) _ (512 * m) full)
-    | inr b ↦ no-result (b .0) (m ∷ []) (sym e ∙ b .2 .0)
+    | inr b ↦ absurd (no-result-refused (sym e ∙ b .2 .0))
   ]
     where
       told : {x y : ℕ} → result (x ∷ []) ≡ result (y ∷ []) → x ≡ y

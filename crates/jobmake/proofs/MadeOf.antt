@@ -1,11 +1,11 @@
 -- From what the parser and the writer leave to what is made of the text, and that no second outcome meets the contract.
-use mathlib.Core.Path.{_≡_, refl, ap, sym, _∙_, subst}
+use mathlib.Core.Path.{_≡_, refl, ap, sym, _∙_}
 use mathlib.Core.List.{List, [], _∷_}
 use Prim.Native.Nat.{ℕ, _*_, _≤_}
 use native.Mathlib.Omega.{arith}
 use lib.ListN.{length, take, drop, length-append}
 use lib.Seq.{take-at}
-use Rattle.field.specs.Answer.{Answer, result, refusal}
+use Rattle.field.specs.Answer.{result}
 use Rattle.block.specs.File.{blocksFor}
 use Rattle.jobfile.specs.Job.{Job, Admitted, jobOf}
 use Rattle.jobfile.specs.Layout.{wordsOf, layout}
@@ -26,9 +26,6 @@ pub laid-out : (j : Job) → Admitted j → (m : ℕ) → result (m ∷ []) ≡ 
 laid-out j ad m e =
     let blocks : m ≡ blocksFor (length (wordsOf j)) = cc in
     omega (arith, blocks, length-layout j ad, ap blocksFor (length-words j ad))
-
-pub no-refusal : (k : ℕ) (l : List ℕ) → refusal k ≡ result l → ⊥
-no-refusal k l e = let z : _≡_ {A = ℕ} 0 1 = cc in omega arith
 
 -- the job that was parsed, in the words that the parser left
 pub record Read (j : JobText) (p n s : ℕ) (types series : List ℕ) : Type 0 where

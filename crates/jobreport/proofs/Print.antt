@@ -4,7 +4,7 @@ use mathlib.Core.Logic.{inl, inr, ⊎-elim}
 use mathlib.Core.List.{List, [], _∷_}
 use Prim.Native.Nat.{ℕ, _+_, _*_, _≤_}
 use native.Mathlib.Omega.{arith}
-use lib.ListN.{length, take, drop, length-append}
+use lib.ListN.{length, take}
 use lib.Seq.{take-at}
 use Rattle.field.specs.Refusal.{NoTest, First, Outcome}
 use Rattle.field.specs.Answer.{Answer, result, refusal}
@@ -12,9 +12,10 @@ use Rattle.sizes.specs.Lengths.{basisLength}
 use Rattle.sizes.specs.Entry.{EntryOutside}
 use Rattle.sizes.specs.Orders.{sizesOrder}
 use Rattle.sizes.proofs.Entry.{outside-above}
+use Rattle.sizes.proofs.Passed.{sizes-pass}
 use Rattle.engine.specs.Orders.{buffersOrder, basisOrder}
 use Rattle.engine.specs.Basis.{BasisAnswered, BasisOutcome}
-use Rattle.field.proofs.Refusal.{answer, none-both}
+use Rattle.field.proofs.Refusal.{answer, none-both, no-result-refused}
 use Rattle.field.proofs.Truth.{no-either, exact}
 use Rattle.words.specs.Some.{Some}
 use Rattle.jobfile.specs.Job.{Job, Admitted, jobOf}
@@ -23,18 +24,14 @@ use Rattle.jobfile.specs.Orders.{readerOrder}
 use Rattle.jobfile.specs.Outcomes.{JobRead, ReadOutcome}
 use Rattle.report.specs.Text.{basisText}
 use Rattle.report.specs.Calls.{basisTextOrder, refusalTextOrder, TextOutcome, BasisTextOutcome}
-use Rattle.jobreport.specs.Printed.{PrintOutcome, JobPrintOutcome}
-
--- a refusal is no result
-no-refusal : (k : ℕ) (l : List ℕ) → refusal k ≡ result l → ⊥
-no-refusal k l e = let z : _≡_ {A = ℕ} 0 1 = cc in omega arith
+use Rattle.jobreport.specs.Printed.{JobPrintOutcome}
 
 module _ (j : Job) (ad : Admitted j) where
   pub passes : (words : ℕ) → words ≡ basisLength (j .n) (j .s) → NoTest (basisOrder (j .p) (j .n) (j .s) (j .d) (j .series) words)
   unfolding NoTest
   passes words full =
       none-both (sizesOrder (j .p) (j .n) (j .s)) (buffersOrder (j .p) (j .n) (j .s) (j .d) (j .series) words)
-      ((λ h. h (ad .modulus)), (no-either (omega (arith, ad .n-from)) (omega (arith, ad .n-to)), (omega (arith, ad .s-to), tt)))
+      (sizes-pass (ad .modulus) (ad .n-from) (ad .n-to) (ad .s-to))
       (exact full, (no-either (exact (ad .type-words)) (exact (ad .series-words)), (entries, (coefficients, tt))))
     where
       entries : ¬ (Some EntryOutside (j .d))
@@ -63,7 +60,7 @@ module _ (j : Job) (ad : Admitted j) where
     answered = answer _ _ _ worked (passes (length lent) full)
 
     pub not-refused : (k : ℕ) → said ≡ refusal k → ⊥
-    not-refused k e = no-refusal k _ (sym e ∙ answered .says)
+    not-refused k e = no-result-refused (sym (answered .says) ∙ e)
 
     pub printed : (least count : ℕ) (before after : List ℕ) (wrote : Answer) → said ≡ result (least ∷ count ∷ [])
         → BasisTextOutcome (j .p) (j .n) (j .s) (j .d) left least before after wrote → JobPrintOutcome j before after wrote
@@ -81,7 +78,7 @@ module _ (file lent-d lent-series left-d left-series : List ℕ) (said : Answer)
   pub read-refused : (k : ℕ) → said ≡ refusal k → First (readerOrder file (length lent-d) (length lent-series)) k
   unfolding ReadOutcome Outcome
   read-refused k e = elim read as (λ _. First (readerOrder file (length lent-d) (length lent-series)) k) [
-    | inl o ↦ absurd (no-refusal k _ (sym e ∙ o .1 .says))
+    | inl o ↦ absurd (no-result-refused (sym (o .1 .says) ∙ e))
     | inr o ↦
         let q : refusal k ≡ refusal (o .0) = sym e ∙ o .2 .0 in
         let i : o .0 ≡ k = cc in
@@ -108,5 +105,5 @@ module _ (file lent-d lent-series left-d left-series : List ℕ) (said : Answer)
     unfolding ReadOutcome Outcome
     read-job = elim read as (λ _. Admitted there × (file ≡ layout there)) [
       | inl o ↦ (subst (λ (j : Job). Admitted j) (same-job (o .1)) (o .1 .admitted), o .1 .laid-out ∙ ap layout (same-job (o .1)))
-      | inr o ↦ absurd (no-refusal (o .0) _ (sym (o .2 .0) ∙ e))
+      | inr o ↦ absurd (no-result-refused (sym e ∙ o .2 .0))
     ]

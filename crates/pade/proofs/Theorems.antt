@@ -5,11 +5,10 @@ use mathlib.Core.Path.{_≡_, ap, sym, _∙_}
 use mathlib.Core.Logic.{_↔_, inl, inr}
 use mathlib.Core.List.{List, []}
 use Prim.Native.Nat.{ℕ}
-use native.Mathlib.Omega.{arith}
 use lib.ListN.{length}
 use Rattle.field.specs.Refusal.{NoTest, First, Outcome}
 use Rattle.field.specs.Answer.{Answer, result, refusal}
-use Rattle.field.proofs.Refusal.{first-unique, first-or-none, answer}
+use Rattle.field.proofs.Refusal.{first-unique, first-or-none, answer, no-result-refused}
 use Rattle.words.specs.Polynomial.{poly}
 use Rattle.relation.specs.Polynomial.{PolynomialMultiple}
 use Rattle.relation.specs.Fraction.{Fraction, HasFraction}
@@ -17,9 +16,6 @@ use Rattle.relation.proofs.Fraction.{fraction-of-lowest}
 use Rattle.pade.specs.Orders.{argumentsOrder, pairOrder}
 use Rattle.pade.specs.Pair.{PairWritten, PairOutcome}
 use Rattle.pade.proofs.Admitted.{pair-lent, none-holds, last-holds}
-
-no-result-refused : {j : ℕ} → ¬ (result [] ≡ refusal j)
-no-result-refused e = let z : _≡_ {A = ℕ} 0 1 = cc in omega arith
 
 module _ (p k : ℕ) (g r t : List ℕ) (said : Answer) (r′ t′ : List ℕ) (passed : NoTest (argumentsOrder p k g (length r) (length t))) (o : PairOutcome p k g r t said r′ t′) where
   answered : HasFraction p k (length g) (poly g) → (said ≡ result []) × PairWritten p k g r′ t′

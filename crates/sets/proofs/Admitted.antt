@@ -14,7 +14,8 @@ use Rattle.sizes.specs.Orders.{sizesOrder}
 use Rattle.sizes.proofs.Passed.{sizes-passed}
 use Rattle.solve.specs.Sizes.{Sizes}
 use Rattle.sets.specs.Orders.{lentOrder, basesOrder}
-use Rattle.sets.specs.BasesSizes.{BasesSizes, InSet}
+use Rattle.sets.specs.BasesSizes.{BasesSizes}
+use Rattle.sets.specs.InSet.{InSet}
 
 pub bases-sizes : (p n s sets : ℕ) (d : List ℕ) (series bases answers : ℕ) → NoTest (basesOrder p n s sets d series bases answers)
     → BasesSizes p n s sets d series bases answers

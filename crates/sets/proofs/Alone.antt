@@ -5,46 +5,30 @@
 --   set-full    neither changes a length
 use mathlib.Core.Path.{_≡_, refl, ap, sym, _∙_}
 use mathlib.Core.Bool.{Bool, true, false}
-use mathlib.Core.Logic.{_↔_, _⊎_, _≢_, inl, inr}
-use mathlib.Core.List.{List, [], _∷_, _++_}
-use Prim.Native.Nat.{ℕ, _*_, _≤_}
-use native.Mathlib.Omega.{arith}
+use mathlib.Core.Logic.{_↔_, _⊎_, inl, inr}
+use mathlib.Core.List.{List, [], _∷_}
+use Prim.Native.Nat.{ℕ, _≤_}
 use lib.ListN.{length}
-use Rattle.field.specs.Refusal.{Order, NoTest, First, Outcome, _when_}
-use Rattle.field.specs.Answer.{Answer, result, refusal}
-use Rattle.field.proofs.Refusal.{outcome-after}
-use Rattle.field.proofs.Truth.{exact, fails, no-either}
+use Rattle.field.specs.Refusal.{NoTest, First, Outcome}
+use Rattle.field.specs.Answer.{Answer, refusal}
+use Rattle.field.proofs.Refusal.{no-result-refused}
+use Rattle.field.proofs.Truth.{fails}
 use Rattle.words.specs.Some.{Some}
 use Rattle.sizes.specs.Lengths.{basisLength}
-use Rattle.sizes.specs.Orders.{sizesOrder, entriesOrder, coefficientsOrder}
 use Rattle.solve.specs.Sizes.{Sizes}
 use Rattle.engine.specs.declared.BasisAnswer.{BasisAnswer}
 use Rattle.engine.specs.declared.BasisResult.{BasisResult}
 use Rattle.engine.specs.Answers.{basisSays}
 use Rattle.engine.specs.Basis.{BasisAnswered, BasisOutcome}
+use Rattle.engine.proofs.Admitted.{only-coefficients}
 use Rattle.engine.proofs.Unique.{basis-unique}
 use Rattle.sets.specs.Answer.{answerLength, answerWords}
 use Rattle.sets.specs.Set.{SetOutcome, SetAnswered}
 
--- the single call's tests before 6
-abbrev before : ℕ → ℕ → ℕ → List ℕ → List ℕ → ℕ → Order
-before p n s d series basis =
-    sizesOrder p n s ++ ((4 when (basis ≢ basisLength n s)) ∷ (4 when ((length d ≢ n) ⊎ (length series ≢ n * s))) ∷ entriesOrder d)
-
-none-before : {p n s : ℕ} {d series : List ℕ} {basis : ℕ} → Sizes p n s d series basis → NoTest (before p n s d series basis)
-unfolding NoTest
-none-before z = (
-  (λ no. no (z .modulus)),
-  (
-    no-either (omega (arith, z .n-from)) (omega (arith, z .n-to)),
-    (omega (arith, z .s-to), (exact (z .basis-words), (no-either (exact (z .type-words)) (exact (z .series-words)), (z .entries, tt)))),
-  ),
-)
-
 module _ {p n s : ℕ} {d series : List ℕ} (lent : List ℕ) (z : Sizes p n s d series (length lent)) where
   pub alone : (said : Answer) (left : List ℕ) → SetOutcome p n s d series lent said left → BasisOutcome p n s d series lent said left
   unfolding SetOutcome BasisOutcome
-  alone said left = outcome-after (before p n s d series (length lent)) (coefficientsOrder p series) _ _ (none-before z)
+  alone said left = only-coefficients p n s d series (length lent) z _ _
 
   pub set-same : {left words left′ words′ : List ℕ} → SetAnswered p n s d series lent left words → SetAnswered p n s d series lent left′ words′
       → (left ≡ left′) × (words ≡ words′)
@@ -61,9 +45,6 @@ module _ {p : ℕ} (n s : ℕ) (d cut series lent : List ℕ) (cut-out : cut ≡
   pub answered-set : (said : Answer) (left : List ℕ) → found ≡ false → BasisAnswered p n s d cut left said → SetOutcome p n s d series lent said left
   unfolding SetOutcome Outcome NoTest
   answered-set said left e a = inl ((rw cut-out at (fails found test e), tt), rw cut-out at a)
-
-no-result-refused : {ws : List ℕ} {k : ℕ} → ¬ (result ws ≡ refusal k)
-no-result-refused e = let z : _≡_ {A = ℕ} 0 1 = cc in omega arith
 
 -- a set that is answered, and one that is refused
 pub record Answered (p n s : ℕ) (d series lent left words : List ℕ) : Type 0 where

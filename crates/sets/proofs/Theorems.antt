@@ -12,12 +12,14 @@ use native.Mathlib.Omega.{arith}
 use lib.ListN.{length}
 use Rattle.field.specs.Modulus.{Modulus}
 use Rattle.field.specs.Refusal.{NoTest}
-use Rattle.field.proofs.Refusal.{admitted}
-use Rattle.field.proofs.Truth.{exact, no-either}
+use Rattle.field.proofs.Refusal.{none-both, admitted}
+use Rattle.field.proofs.Truth.{exact}
 use Rattle.words.specs.Part.{part}
 use Rattle.words.specs.Some.{Some}
 use Rattle.sizes.specs.Entry.{EntryOutside}
 use Rattle.sizes.specs.Lengths.{basisLength}
+use Rattle.sizes.specs.Orders.{sizesOrder}
+use Rattle.sizes.proofs.Passed.{sizes-pass}
 use Rattle.solve.specs.Sizes.{Sizes}
 use Rattle.relation.specs.Vector.{Vect}
 use Rattle.relation.specs.Relation.{Relation}
@@ -32,7 +34,7 @@ use Rattle.engine.proofs.Unique.{basis-unique}
 use Rattle.engine.proofs.Buffers.{WordsAgree, basis-combinations, basis-one-way, basis-count, basis-words}
 use Rattle.sets.specs.declared.BasesAnswer.{BasesAnswer}
 use Rattle.sets.specs.Answer.{basesSays, answerLength, answerWords}
-use Rattle.sets.specs.Orders.{basesOrder}
+use Rattle.sets.specs.Orders.{lentOrder, basesOrder}
 use Rattle.sets.specs.Set.{SetAnswered}
 use Rattle.sets.specs.Bases.{BasesAnswered, BasesOutcome}
 use Rattle.sets.proofs.Admitted.{bases-sizes, part-sizes}
@@ -109,10 +111,6 @@ pub no-sets : (p n s : ℕ) (d : List ℕ) → Modulus p → 1 ≤ n → n ≤ 8
 unfolding NoTest
 no-sets p n s d m from to order words inside =
     let few : ¬ (16 < 0) = omega arith in
-    let typed : ¬ (length d ≢ n) = exact words in (
-      (λ no. no m),
-      (
-        no-either (omega arith) (omega arith),
-        (omega arith, (search (few, typed), (search (few, typed), (exact (omega arith), (exact (omega arith), (exact refl, (inside, tt))))))),
-      ),
-    )
+    let typed : ¬ (length d ≢ n) = exact words in
+    none-both (sizesOrder p n s) (lentOrder n s 0 d 0 0 0) (sizes-pass m from to order)
+    (search (few, typed), (search (few, typed), (exact (omega arith), (exact (omega arith), (exact refl, (inside, tt))))))

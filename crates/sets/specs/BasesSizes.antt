@@ -1,14 +1,12 @@
 -- The admitted sizes of document 01 for many sets, in that many words, as they are known where no test of the whole call holds.
 use mathlib.Core.Path.{_≡_}
 use mathlib.Core.List.{List}
-use Prim.Native.Nat.{ℕ, _+_, _*_, _≤_}
+use Prim.Native.Nat.{ℕ, _*_, _≤_}
 use lib.ListN.{length}
 use Rattle.field.specs.Modulus.{Modulus}
-use Rattle.words.specs.Part.{part}
 use Rattle.words.specs.Some.{Some}
 use Rattle.sizes.specs.Entry.{EntryOutside}
 use Rattle.sizes.specs.Lengths.{basisLength}
-use Rattle.solve.specs.Sizes.{Sizes}
 use Rattle.sets.specs.Answer.{answerLength}
 
 pub record BasesSizes (p n s sets : ℕ) (d : List ℕ) (series bases answers : ℕ) : Type 0 where
@@ -21,8 +19,3 @@ pub record BasesSizes (p n s sets : ℕ) (d : List ℕ) (series bases answers : 
   pub bases-words : bases ≡ sets * basisLength n s
   pub answers-words : answers ≡ sets * answerLength
   pub entries : ¬ (Some EntryOutside d)
-
--- set j lies in the series, and is admitted with that many words for its basis
-pub record InSet (p n s j : ℕ) (d series : List ℕ) (basis : ℕ) : Type 0 where
-  pub lies : j * (n * s) + n * s ≤ length series
-  pub sizes : Sizes p n s d (part (n * s) j series) basis

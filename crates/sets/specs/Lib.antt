@@ -3,5 +3,6 @@ pub mod Answer
 pub mod Orders
 pub mod Set
 pub mod Bases
--- A working notion, which only contracts of the call's own operations cite.
+-- Working notions, which only contracts of the call's own operations cite.
 pub mod BasesSizes
+pub mod InSet

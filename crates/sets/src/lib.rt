@@ -9,7 +9,8 @@ ghost use Rattle.sets.specs.Answer.{basesSays, answerLength, answerWords
 ghost use Rattle.sets.specs.Orders.{lentOrder, basesOrder};
 ghost use Rattle.sets.specs.Set.{SetOutcome, SetAnswered};
 ghost use Rattle.sets.specs.Bases.{BasesAnswered, BasesOutcome};
-ghost use Rattle.sets.specs.BasesSizes.{BasesSizes, InSet};
+ghost use Rattle.sets.specs.BasesSizes.{BasesSizes};
+ghost use Rattle.sets.specs.InSet.{InSet};
 use engine::BasisAnswer;
 use field::Field;
 use field::Tested;

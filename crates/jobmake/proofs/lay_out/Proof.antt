@@ -1,8 +1,9 @@
 -- `lay_out` meets its contract: the writer does not refuse an admitted job.
 use mathlib.Core.Path.{ap, sym, _∙_}
+use Rattle.field.proofs.Refusal.{no-result-refused}
 use Rattle.jobfile.specs.Answers.{writeSays}
 use Rattle.jobfile.proofs.Theorems.{writes-admitted}
-use Rattle.jobmake.proofs.MadeOf.{laid-out, no-refusal}
+use Rattle.jobmake.proofs.MadeOf.{laid-out}
 use borrow.Author.Needs.{needs}
 use Rattle.jobmake.proofs.lay_out.Statement.{statement}
 use Rattle.jobmake.proofs.lay_out.Tie as tie
@@ -37,7 +38,7 @@ returns-2 c =
     let at-write = c .before .before in
     let start = at-write .before .before .before .before in
     let written = writes-admitted _ _ _ _ _ _ _ _ (at-write .write-job .ensures) (start .pre) (search needs) in
-    absurd (no-refusal _ _ (sym (ap writeSays (c .enum-told .given .1)) ∙ written .says))
+    absurd (no-result-refused (sym (written .says) ∙ ap writeSays (c .enum-told .given .1)))
 
 pub lay-out-spec : {M : Type 1} → statement M
 lay-out-spec = tie.close (tie.spec write-job-requires enum-known-m cast-result mul-result enum-told returns returns-2)
