@@ -2,6 +2,7 @@
 pub mod Truth
 pub mod Words
 pub mod Residue
+pub mod Gathered
 pub mod Coprime
 pub mod Prime
 pub mod Trial

@@ -1,5 +1,6 @@
 -- Residues of sums and products. Numbers are naturals and `% p` is taken late; a difference adds `neg p c`.
 --   mod-mul-left, mod-mul-right, mod-mul   a factor's residue may be taken first
+--   sum-mul-left                           so it may in a sum
 --   neg, neg-add, neg-nonzero              the number to add for a difference
 --   drop-mult, mult-zero                   multiples of p vanish
 --   back, diff-zero, cancel-mod            what was added is taken away again
@@ -19,6 +20,9 @@ mod-mul-right p a b = rw (mul-comm a (b % p), mul-comm a b) (mod-mul-left p b a)
 
 pub mod-mul : (p a b : ℕ) → (a * b) % p ≡ (a % p * (b % p)) % p
 mod-mul p a b = sym (mod-mul-left p a (b % p) ∙ mod-mul-right p a b)
+
+pub sum-mul-left : (p x a b : ℕ) → (x + a % p * b) % p ≡ (x + a * b) % p
+sum-mul-left p x a b = sym (add-mod-mod x (a % p * b) p) ∙ rw (mod-mul-left p a b) (add-mod-mod x (a * b) p)
 
 -- the number to add for a difference
 unfoldable pub neg : ℕ → ℕ → ℕ

@@ -4,6 +4,7 @@ pub mod Coprime
 pub mod Modulus
 pub mod ModulusTest
 pub mod Inverse
+pub mod Gathered
 pub mod Refusal
 pub mod Answer
 pub mod Calls

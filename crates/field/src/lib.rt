@@ -2,15 +2,22 @@
 ghost use mathlib.Core.Path.{_≡_};
 ghost use mathlib.Core.Bool.{true};
 ghost use mathlib.Core.Logic.{_↔_};
-ghost use Prim.Native.Nat.{_+_, _*_, _%_, _^_, _<_};
+ghost use Prim.Native.Nat.{_+_, _*_, _%_, _/_, _^_, _<_};
 ghost use Rattle.field.specs.Prime.{Prime};
 ghost use Rattle.field.specs.Modulus.{Modulus};
 ghost use Rattle.field.specs.Inverse.{Inverse};
+ghost use Rattle.field.specs.Gathered.{gathered};
 ghost use Rattle.field.specs.Calls.{Tests, operandOrder, operandsOrder, fieldSays, residueSays, inverseSays, MakeOutcome, ResidueOutcome, AddOutcome, MultiplyOutcome, InvertOutcome};
 ghost use Rattle.field.specs.Coprime.{Coprime};
 
 pub struct Field {
     pub modulus: u32,
+}
+
+// A sum of products whose first factors are cut in two: low has what their lower 16 bits give, high what their upper 16 bits give.
+pub struct Halves {
+    pub low: u64,
+    pub high: u64,
 }
 
 // What the tests of a call find.
@@ -76,6 +83,22 @@ fn euclid(a: u64, b: u64) -> u64
     let x = euclid(b, r);
     let k = r * x / b;
     a - (q * x + k)
+}
+
+impl Halves {
+    // Half a word times a word is below 2^48: the sum of so many is below 2^63.
+    pub const MOST: usize = 32768;
+
+    // One product more, without a remainder.
+    pub fn plus_product(self, a: u32, b: u32) -> Halves
+        requires { ⌜ (self .low < 2 ^ 63) × (self .high < 2 ^ 63) ⌝ }
+        ensures { λ h. ⌜ (h .low ≡ self .low + a % 2 ^ 16 * b) × (h .high ≡ self .high + a / 2 ^ 16 * b) ⌝ }
+    {
+        Halves {
+            low: self.low + (a % 65536) as u64 * b as u64,
+            high: self.high + (a / 65536) as u64 * b as u64,
+        }
+    }
 }
 
 impl Field {
@@ -173,12 +196,21 @@ impl Field {
         (n % self.modulus as u64) as u32
     }
 
-    // a + b * c: what sums, products and cleared rows are made of. It fits 64 bits whatever the words are.
+    // a + b * c: what factors and cleared rows are made of. It fits 64 bits whatever the words are.
     pub fn plus_product(self, a: u32, b: u32, c: u32) -> u32
         requires { ⌜ 0 < self .modulus ⌝ }
         ensures { λ r. ⌜ r ≡ (a + b * c) % self .modulus ⌝ }
     {
         self.residue(a as u64 + b as u64 * c as u64)
+    }
+
+    // a and the gathered products: two remainders, however many they are.
+    pub fn plus_halves(self, a: u32, h: Halves) -> u32
+        requires { ⌜ (0 < self .modulus) × (h .low < 2 ^ 63) ⌝ }
+        ensures { λ r. ⌜ r ≡ (a + gathered h) % self .modulus ⌝ }
+    {
+        let high = self.residue(h.high);
+        self.residue(a as u64 + (h.low + high as u64 * 65536))
     }
 
     pub fn inverse(self, a: u32) -> u32

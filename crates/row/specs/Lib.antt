@@ -1,3 +1,4 @@
 -- What the contracts of rows cite.
 pub mod View
 pub mod Shape
+pub mod Term

@@ -1,19 +1,38 @@
 // Rows of polynomials as words: n entries of equal width, low coefficient first. Loops end at the pivot degrees.
 ghost use mathlib.Core.Path.{_≡_};
-ghost use Prim.Native.Nat.{ℕ, min, _+_, _*_, _-_, _%_, _<_, _≤_};
+ghost use Prim.Native.Nat.{ℕ, min, _+_, _*_, _-_, _%_, _^_, _<_, _≤_};
 ghost use lib.ListN.{length};
+ghost use Rattle.field.specs.Gathered.{gathered};
+ghost use Rattle.relation.specs.Sum.{sumTo};
 ghost use Rattle.relation.specs.Product.{conv, dot};
 ghost use Rattle.relation.specs.Operations.{addMultiple, timesX, unit};
 ghost use Rattle.words.specs.Polynomial.{poly};
 ghost use Rattle.row.specs.View.{vector, degreeAt};
 ghost use Rattle.row.specs.Shape.{EndsAt, RowEndsAt, Residues};
+ghost use Rattle.row.specs.Term.{term};
 use degree::Degree;
 use field::Field;
+use field::Halves;
 
 fn smaller(a: usize, b: usize) -> usize
     ensures { λ r. ⌜ r ≡ min a b ⌝ }
 {
     if a < b { a } else { b }
+}
+
+// The terms from start to below end of the coefficient of X^at in entry * series, gathered without a remainder.
+fn gather(entry: &[u32], series: &[u32], start: usize, end: usize, at: usize) -> Halves
+    requires { ⌜ (start ≤ end) × (end ≤ start + 32768) × (end ≤ at + 1) × (at < length (now entry)) × (at < length (now series)) ⌝ }
+    ensures { λ h. ⌜ (h .low < 2 ^ 63)
+        × (sumTo start (term (poly (now (entry .entry))) (poly (now (series .entry))) at) + gathered h ≡ sumTo end (term (poly (now (entry .entry))) (poly (now (series .entry))) at)) ⌝ }
+{
+    let mut h = Halves { low: 0, high: 0 };
+    let mut t = start;
+    while t < end {
+        h = h.plus_product(entry[t], series[at - t]);
+        t += 1;
+    }
+    h
 }
 
 // The sum, plus the coefficient of X^at in entry * series. The entry ends at its degree, and no coefficient of the series past X^at counts.
@@ -32,8 +51,9 @@ fn plus_entry_product(
     let mut total = sum;
     let mut t = 0;
     while t < end {
-        total = f.plus_product(total, entry[t], series[at - t]);
-        t += 1;
+        let next = t + smaller(end - t, Halves::MOST);
+        total = f.plus_halves(total, gather(entry, series, t, next, at));
+        t = next;
     }
     total
 }

@@ -45,7 +45,7 @@ euclid-mul-k :
     (t : ℕ) → euclid-lts.Need-mul-k (euclid-below t, euclid.Post) (euclid-at t) euclid.Post
 euclid-mul-k t c =
     let r = mod-lt (c .before .before .args .a) (c .before .before .pre .1 .0) in
-    omega (arith, sum-product 32 0 (c .before .before .args .a % c .before .before .args .b) (c .euclid .result) (omega arith) (omega arith) (omega arith))
+    omega (arith, sum-product 32 32 0 (c .before .before .args .a % c .before .before .args .b) (c .euclid .result) (omega arith) (omega arith) (omega arith))
 
 euclid-div-k :
     (t : ℕ) → euclid-lts.Need-div-k (euclid-below t, euclid.Post) (euclid-at t) euclid.Post

@@ -23,7 +23,7 @@ cast-loop-2 : tie.Need-cast-loop-2 Inv-loop μ-loop
 cast-loop-2 c = omega arith
 
 mul-loop : tie.Need-mul-loop Inv-loop μ-loop
-mul-loop c = omega (arith, sum-product 32 0 (c .loop .d) (c .loop .d) (omega arith) (omega arith) (omega arith))
+mul-loop c = omega (arith, sum-product 32 32 0 (c .loop .d) (c .loop .d) (omega arith) (omega arith) (omega arith))
 
 rem-if1 : tie.Need-rem-if1 Inv-loop μ-loop
 rem-if1 c = omega arith

@@ -1,18 +1,19 @@
--- `plus_entry_product` meets its contract: after t turns the total is the sum with the first t terms of the product's coefficient.
+-- `plus_entry_product` meets its contract: before each group the total is the sum with the first t terms of the product's coefficient.
 use mathlib.Core.Path.{_≡_, sym, _∙_}
-use Prim.Native.Nat.{min, _+_, _*_, _-_, _%_, _≤_}
+use Prim.Native.Nat.{min, _+_, _-_, _%_, _≤_}
 use native.Mathlib.Nat.{add-zero, mod-eq-of-lt}
 use native.Mathlib.Omega.{arith}
 use Rattle.relation.specs.Sum.{sumTo}
 use Rattle.words.specs.Polynomial.{poly}
-use Rattle.row.proofs.Turn.{sum-turn, conv-end}
+use Rattle.row.specs.Term.{term}
+use Rattle.row.proofs.Turn.{sum-turns, conv-end}
 use borrow.Author.Needs.{needs}
 use Rattle.row.proofs.plus_entry_product.Statement.{statement}
 use Rattle.row.proofs.plus_entry_product.Tie as tie
 
 abbrev Inv-loop : tie.InvT-loop
 Inv-loop f sum entry series at end total₀ t₀ total t =
-    (t ≤ end) × (total ≡ (sum + sumTo t (λ k. poly entry k * poly series (at - k))) % f .modulus)
+    (t ≤ end) × (total ≡ (sum + sumTo t (term (poly entry) (poly series) at)) % f .modulus)
 
 abbrev μ-loop : tie.MeasureT-loop
 μ-loop f sum entry series at end total₀ t₀ total t = end - t
@@ -27,35 +28,28 @@ loop-holds : tie.Need-loop-holds Inv-loop μ-loop
 unfolding sumTo
 loop-holds c = (omega arith, sym (rw add-zero (mod-eq-of-lt (omega arith))))
 
-mul-plus-product : tie.Need-mul-plus-product Inv-loop μ-loop
-mul-plus-product c = omega arith
+sub-smaller : tie.Need-sub-smaller Inv-loop μ-loop
+sub-smaller c = omega arith
 
-shared-slice-read-plus-product : tie.Need-shared-slice-read-plus-product Inv-loop μ-loop
-shared-slice-read-plus-product c = omega arith
+smaller-requires-2 : tie.Need-smaller-requires-2 Inv-loop μ-loop
+smaller-requires-2 c κs = search needs
 
-sub-plus-product : tie.Need-sub-plus-product Inv-loop μ-loop
-sub-plus-product c = omega arith
+add-next : tie.Need-add-next Inv-loop μ-loop
+add-next c = omega arith
 
-mul-plus-product-2 : tie.Need-mul-plus-product-2 Inv-loop μ-loop
-mul-plus-product-2 c = omega arith
+gather-requires : tie.Need-gather-requires Inv-loop μ-loop
+gather-requires c κs = omega arith
 
-shared-slice-read-plus-product-2 : tie.Need-shared-slice-read-plus-product-2 Inv-loop μ-loop
-shared-slice-read-plus-product-2 c = omega arith
-
-plus-product-requires : tie.Need-plus-product-requires Inv-loop μ-loop
-plus-product-requires c κs = omega arith
-
-add-t : tie.Need-add-t Inv-loop μ-loop
-add-t c = omega arith
+plus-halves-requires : tie.Need-plus-halves-requires Inv-loop μ-loop
+plus-halves-requires c κs = omega arith
 
 loop-less : tie.Need-loop-less Inv-loop μ-loop
 loop-less c = omega arith
 
 loop-again : tie.Need-loop-again Inv-loop μ-loop
-unfolding poly
 loop-again c =
     let l = c .before .before .before .before .loop in
-    (omega arith, sum-turn _ _ (l .t) _ _ _ (l .inv .1) (c .plus-product .ensures))
+    (omega arith, sum-turns _ _ (l .t) _ _ _ _ _ (l .inv .1) (c .plus-halves .ensures) (c .before .gather .ensures .1))
 
 returns : tie.Need-returns Inv-loop μ-loop
 returns c =
@@ -74,13 +68,11 @@ plus-entry-product-spec =
     smaller-requires
     add-end
     loop-holds
-    mul-plus-product
-    shared-slice-read-plus-product
-    sub-plus-product
-    mul-plus-product-2
-    shared-slice-read-plus-product-2
-    plus-product-requires
-    add-t
+    sub-smaller
+    smaller-requires-2
+    add-next
+    gather-requires
+    plus-halves-requires
     loop-less
     loop-again
     returns)

@@ -6,7 +6,7 @@ use Rattle.field.proofs.Field.multiply.Statement.{statement}
 use Rattle.field.proofs.Field.multiply.Tie as tie
 
 mul-residue-of : tie.Need-mul-residue-of
-mul-residue-of c = omega (arith, sum-product 32 0 (c .args .a) (c .args .b) (omega arith) (omega arith) (omega arith))
+mul-residue-of c = omega (arith, sum-product 32 32 0 (c .args .a) (c .args .b) (omega arith) (omega arith) (omega arith))
 
 residue-of-requires : tie.Need-residue-of-requires
 residue-of-requires c κs = search needs

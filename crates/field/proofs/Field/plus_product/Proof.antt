@@ -6,10 +6,10 @@ use Rattle.field.proofs.Field.plus_product.Statement.{statement}
 use Rattle.field.proofs.Field.plus_product.Tie as tie
 
 mul-residue : tie.Need-mul-residue
-mul-residue c = omega (arith, sum-product 32 0 (c .args .b) (c .args .c) (omega arith) (omega arith) (omega arith))
+mul-residue c = omega (arith, sum-product 32 32 0 (c .args .b) (c .args .c) (omega arith) (omega arith) (omega arith))
 
 add-residue : tie.Need-add-residue
-add-residue c = omega (arith, sum-product 32 (c .args .a) (c .args .b) (c .args .c) (omega arith) (omega arith) (omega arith))
+add-residue c = omega (arith, sum-product 32 32 (c .args .a) (c .args .b) (c .args .c) (omega arith) (omega arith) (omega arith))
 
 residue-requires : tie.Need-residue-requires
 residue-requires c κs = search needs

@@ -1,0 +1,24 @@
+-- Sums of products whose first factors are cut at v bits: how large the products of the parts are, one product more, and the residue.
+use mathlib.Core.Path.{_≡_}
+use Prim.Native.Nat.{ℕ, _+_, _*_, _%_, _/_, _^_, _<_}
+use lib.Pow.{pow-pos, shr-lt}
+use native.Mathlib.Nat.{add-mul, mul-right-comm, mod-add-div', mod-lt, zero-add, add-assoc}
+use native.Mathlib.Omega.{arith}
+use Rattle.field.proofs.Words.{sum-product}
+use Rattle.field.proofs.Residue.{sum-mul-left}
+
+-- the products of both parts of a number of 2v bits with one of w bits
+pub part-products : (v w a b : ℕ) → a < 2 ^ (v + v) → b < 2 ^ w → (a % 2 ^ v * b < 2 ^ (v + w)) × (a / 2 ^ v * b < 2 ^ (v + w))
+part-products v w a b g h =
+    let fits : (x : ℕ) → x < 2 ^ v → x * b < 2 ^ (v + w) = λ x k. rw zero-add at (sum-product v w 0 x b (pow-pos w) k h) in
+    (fits (a % 2 ^ v) (mod-lt a (pow-pos v)), fits (a / 2 ^ v) (shr-lt v v g))
+
+-- both parts of a product are in the sum
+pub halves-plus : (v low high a b : ℕ) → low + a % 2 ^ v * b + (high + a / 2 ^ v * b) * 2 ^ v ≡ low + high * 2 ^ v + a * b
+halves-plus v low high a b =
+    let e : (a % 2 ^ v + a / 2 ^ v * 2 ^ v) * b ≡ a * b = rw (mod-add-div' a (2 ^ v)) in
+    omega (arith, e, add-mul (a % 2 ^ v) (a / 2 ^ v * 2 ^ v) b, add-mul high (a / 2 ^ v * b) (2 ^ v), mul-right-comm (a / 2 ^ v) b (2 ^ v))
+
+-- the residue of the upper sum may be taken first
+pub halves-joined : (v p a low high : ℕ) → (a + (low + high % p * 2 ^ v)) % p ≡ (a + (low + high * 2 ^ v)) % p
+halves-joined v p a low high = rw (← add-assoc a low (high % p * 2 ^ v), ← add-assoc a low (high * 2 ^ v)) (sum-mul-left p (a + low) high (2 ^ v))
