@@ -285,6 +285,33 @@ static void try_basis(void)
     compare(status, wanted, basis, answer);
 }
 
+// Type (255, 0), f_1 = 1 - X - X^2 - .. and f_2 = f_1 / (1 - X): every coefficient of row 2 is -1, so that a sum takes products of p - 1 and p - 1.
+static void try_largest_products(void)
+{
+    static uint32_t basis[1024], answer[2];
+    static const uint32_t orders[] = {0, 1, 2, 3, 4, 5, 6, 7, 8, 9, 16, 17, 33, 100, 255};
+    for (size_t at = 0; at < sizeof orders / sizeof *orders; at++) {
+        uint32_t s = orders[at];
+        lend_words(&type_, 2);
+        lend_words(&series_, 2 * s);
+        lend_words(&basis_, 4 * (s + 1));
+        lend_words(&answer_, 2);
+        uint32_t *type = words_of(&type_), *series = words_of(&series_);
+        type[0] = 255, type[1] = 0;
+        for (uint32_t t = 0; t < s; t++) {
+            series[t] = t == 0 ? 1 : LARGEST - 1;
+            series[s + t] = (LARGEST - t + 1) % LARGEST; // 1 - t
+        }
+        fix(&type_);
+        fix(&series_);
+        uint32_t wanted = algebra_basis(LARGEST, 2, s, type, 2, series, 2 * s, basis, 4 * (s + 1), answer);
+        uint32_t status = relations_basis(LARGEST, 2, s, type, 2, series, 2 * s, words_of(&basis_), 4 * (s + 1), words_of(&answer_), 2);
+        compare(status, wanted, basis, answer);
+        for (uint32_t t = 0; t < s; t++)
+            check(basis[2 * (s + 1) + t] == LARGEST - 1, "largest factors");
+    }
+}
+
 static void try_approximant(void)
 {
     static uint32_t basis[16384], answer[2];
@@ -1128,6 +1155,8 @@ int main(int argc, char **argv)
     finish(NUMBERS(0, 1, 4, 6, 256));
     repeat("basis", try_basis, 2000 * scale);
     finish(NUMBERS(0, 1, 2, 3, 4, 5, 6));
+    repeat("basis, the largest products", try_largest_products, 1);
+    finish(NUMBERS(0));
     repeat("approximant", try_approximant, 2000 * scale);
     finish(NUMBERS(0, 1, 2, 3, 4, 5, 6));
     repeat("bases of many sets", try_bases, 500 * scale);

@@ -1,4 +1,4 @@
-// A stand-in for the engine, to try the harness itself: tests/outside must pass over it, and must fail for each -DSLIP=1 to 54.
+// A stand-in for the engine, to try the harness itself: tests/outside must pass over it, and must fail for each -DSLIP=1 to 58.
 // It follows the engine's algorithm without its economy, and is no part of the product.
 #include "relations.h"
 
@@ -79,14 +79,25 @@ static void add_row(uint32_t p, uint32_t width, uint32_t *to, uint64_t c, const 
         to[t] = (uint32_t)((to[t] + c * from[t]) % p);
 }
 
+// The sum, plus the coefficient of X^j in entry * f. 55: a remainder for five products only; 56: the upper half of a factor dropped;
+// 57: what follows the first four products dropped; 58: the series read one place off.
+static uint64_t plus_product(uint32_t p, uint64_t sum, const uint32_t *entry, const uint32_t *f, uint32_t j)
+{
+    for (uint32_t t = 0; t <= j && (SLIP != 57 || t < 4); t++) {
+        sum += (uint64_t)(SLIP == 56 ? entry[t] % 65536 : entry[t]) * f[j - t + (SLIP == 58 && t > 0)];
+        if (SLIP != 55 || t % 5 == 4)
+            sum %= p;
+    }
+    return sum % p;
+}
+
 static int step(uint32_t p, uint32_t n, uint32_t s, const uint32_t *type, const uint32_t *series, uint32_t *basis, uint32_t *e, uint32_t j)
 {
     uint32_t c[8], w = s + 1, width = n * w, i = n;
     for (uint32_t l = 0; l < n; l++) {
         uint64_t sum = 0;
         for (uint32_t k = 0; k < n; k++)
-            for (uint32_t t = 0; t <= j; t++)
-                sum = (sum + (uint64_t)basis[l * width + k * w + t] * series[k * s + j - t]) % p;
+            sum = plus_product(p, sum, basis + l * width + k * w, series + k * s, j);
         c[l] = (uint32_t)sum;
         if (c[l] != 0 && (i == n || earlier(e, type, l, i)))
             i = l;

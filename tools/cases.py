@@ -231,11 +231,21 @@ def pair_request(p, k, g, r_len, t_len):
     return Request('pair', p, k, g, lent_words(r_len), lent_words(t_len), sums=is_long(r_len, t_len))
 
 
+def largest_products(s):
+    """f_1 = 1 - X - X^2 - .. and f_2 = f_1 / (1 - X) with type (255, 0): every coefficient of row 2's first entry is -1, as those of f_1 are."""
+    f = [1] + [LARGEST - 1] * (s - 1)
+    series = joined([compact(f), written([sum(f[:t + 1]) % LARGEST for t in range(s)])])
+    return basis_request(LARGEST, 2, s, written([255, 0]), series, 4 * (s + 1), sums=is_long(4 * (s + 1)))
+
+
 def basis_section():
     for about, rows in BASIS_JOBS:
         yield remark(about)
         for p, n, s, type_rule, zeros, rule, seed in rows:
             yield basis_request(p, n, s, type_word(n, type_rule, seed), series_word(p, n, s, zeros, rule, seed), n * n * (s + 1))
+    yield remark('the largest products that a sum can take: four of them fit 64 bits, five do not')
+    for s in 4, 5, 6, 9, 255:
+        yield largest_products(s)
 
 
 def approximant_section():
