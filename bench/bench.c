@@ -3,6 +3,7 @@
 //   bench jobs            reads jobs (p n s, type, series; numbers separated by spaces) and prints the words
 //   bench largest ROUNDS  the largest job, types all 0 and types spread: microseconds a call, median of the rounds
 //   bench sweep ROUNDS    n = 2, 4, 8 and s up to 255: the same, with the products formed and their bound
+//   bench once TYPES      one call of each way on the largest job, types zero or spread
 //   bench sets ROUNDS     sixteen sets of n = 2 and s = 31: sixteen single calls of the engine against one call on all sets
 #define _POSIX_C_SOURCE 200809L
 #include "plain.h"
@@ -114,13 +115,13 @@ static uint64_t bound(uint64_t n, uint64_t s)
     return s == 0 ? 0 : (3 * n - 2) * (s * (s - 1) / 2 + n * s) + (n - 1) * s;
 }
 
-// One line: what, microseconds of each way, the ratio, the products of the first round's job and their bound.
+// One line: what, microseconds of each way, the ratio, the products of the first round's job, their bound, and how many a sum took.
 static void line(uint32_t n, uint32_t s, int spread, int rounds)
 {
     double median[WAYS];
     measure(LARGEST, n, s, spread, rounds, median);
     draw(LARGEST, n, s, 1, spread, 0);
-    plain_products = 0;
+    plain_products = plain_summed = 0;
     call(0, LARGEST, n, s);
     printf("%" PRIu32 " %" PRIu32 " %s", n, s, spread ? "spread" : "zero");
     for (size_t way = 0; way < WAYS; way++)
@@ -128,7 +129,7 @@ static void line(uint32_t n, uint32_t s, int spread, int rounds)
     if (WAYS > 1)
         printf(" ratio %.3f", median[WAYS - 1] / median[0]);
 #ifdef COUNT_PRODUCTS
-    printf(" products %" PRIu64 " bound %" PRIu64, plain_products, bound(n, s));
+    printf(" products %" PRIu64 " bound %" PRIu64 " summed %" PRIu64, plain_products, bound(n, s), plain_summed);
 #else
     (void)bound;
 #endif
@@ -210,6 +211,12 @@ int main(int argc, char **argv)
 {
     if (argc == 2 && strcmp(argv[1], "jobs") == 0)
         return jobs();
+    if (argc == 3 && strcmp(argv[1], "once") == 0) {
+        draw(LARGEST, 8, 255, 1, strcmp(argv[2], "spread") == 0, 0);
+        for (size_t way = 0; way < WAYS; way++)
+            demand(ways[way].name, call(way, LARGEST, 8, 255));
+        return 0;
+    }
     int rounds = argc == 3 ? atoi(argv[2]) : 0;
     if (rounds > 0 && strcmp(argv[1], "largest") == 0) {
         line(8, 255, 0, rounds);
@@ -228,6 +235,6 @@ int main(int argc, char **argv)
         return 0;
     }
 #endif
-    fprintf(stderr, "bench jobs | largest ROUNDS | sweep ROUNDS | sets ROUNDS (with the engine)\n");
+    fprintf(stderr, "bench jobs | once TYPES | largest ROUNDS | sweep ROUNDS | sets ROUNDS (with the engine)\n");
     return 2;
 }

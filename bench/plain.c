@@ -4,12 +4,14 @@
 
 #include <string.h>
 
-uint64_t plain_products;
+uint64_t plain_products, plain_summed;
 
 #ifdef COUNT_PRODUCTS
 #define FORMED(k) (plain_products += (uint64_t)(k))
+#define SUMMED(k) (plain_summed += (uint64_t)(k))
 #else
 #define FORMED(k) ((void)0)
+#define SUMMED(k) ((void)0)
 #endif
 
 static int is_prime(uint32_t p)
@@ -47,6 +49,7 @@ static uint32_t coefficient(uint32_t p, uint32_t n, uint32_t s, const uint32_t *
         for (uint32_t t = 0; t <= top; t++)
             sum = (sum + (uint64_t)entry[t] * f[j - t]) % p;
         FORMED(top + 1);
+        SUMMED(top + 1);
     }
     return (uint32_t)sum;
 }

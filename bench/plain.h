@@ -12,7 +12,7 @@ uint32_t plain_basis(uint32_t p, uint32_t n, uint32_t s,
                      uint32_t *basis, size_t basis_len,
                      uint32_t *answer, size_t answer_len);
 
-// The products of coefficients formed since the program began; counted only if built with -DCOUNT_PRODUCTS.
-extern uint64_t plain_products;
+// The products of coefficients formed since the program began, and those among them that a sum took; counted only if built with -DCOUNT_PRODUCTS.
+extern uint64_t plain_products, plain_summed;
 
 #endif
