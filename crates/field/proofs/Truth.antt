@@ -1,9 +1,10 @@
--- A test that answers true exactly where a statement holds, and what a test that does not hold says.
+-- A test that answers true exactly where a statement holds, and what a test that does not hold says; statements that are decided by computing.
 use mathlib.Core.Path.{_≡_, refl, _∙_, sym}
 use mathlib.Core.Bool.{Bool, true, false, not, _&&_, false≢true}
 use mathlib.Core.Logic.{_↔_, _≢_, _⊎_, ⊎-elim, inl, inr}
-use Prim.Native.Nat.{ℕ}
+use Prim.Native.Nat.{ℕ, zero, suc, _<_}
 use native.Mathlib.Decide.{ℕ-discrete}
+use native.Mathlib.Omega.{arith}
 
 pub shown : {A : Type 0} → A → (true ≡ true) ↔ A
 shown a = (λ e. a, λ x. refl)
@@ -36,3 +37,22 @@ neither h = ((λ a. h (inl a)), λ b. h (inr b))
 
 pub no-either : {A B : Type 0} → ¬ A → ¬ B → ¬ (A ⊎ B)
 no-either a b = ⊎-elim a b
+
+-- a decision that computes to yes
+abbrev pub IsYes : {A : Type 0} → Dec A → Type 0
+IsYes (yes a) = Unit {0}
+IsYes (no n) = ⊥
+
+pub computed : {A : Type 0} (d : Dec A) → IsYes d → A
+computed (yes a) y = a
+computed (no n) y = absurd y
+
+-- whether a statement holds of each number below m
+abbrev pub decBelow : {A : ℕ → Type 0} → ((k : ℕ) → Dec (A k)) → (m : ℕ) → Dec ((k : ℕ) → k < m → A k)
+decBelow d zero = yes (λ k l. absurd (omega arith))
+decBelow {A} d (suc m) = go (d m) (decBelow d m)
+  where
+    go : Dec (A m) → Dec ((k : ℕ) → k < m → A k) → Dec ((k : ℕ) → k < suc m → A k)
+    go (yes a) (yes h) = yes (λ k l. elim (ℕ-discrete k m) [ yes e ↦ rw e a | no ne ↦ h k (omega arith) ])
+    go (yes a) (no n) = no (λ h. n (λ k l. h k (omega arith)))
+    go (no n) e = no (λ h. n (h m (omega arith)))

@@ -1,7 +1,7 @@
 // The field of residues modulo a prime: the calls given to users, which test every argument, and the operations that only the engine uses.
 ghost use mathlib.Core.Path.{_≡_};
 ghost use mathlib.Core.Bool.{true};
-ghost use mathlib.Core.Logic.{_↔_};
+ghost use mathlib.Core.Logic.{_↔_, _≢_};
 ghost use Prim.Native.Nat.{_+_, _*_, _%_, _/_, _^_, _<_};
 ghost use Rattle.field.specs.Prime.{Prime};
 ghost use Rattle.field.specs.Modulus.{Modulus};
@@ -42,17 +42,22 @@ pub enum InverseAnswer {
     OfZero,
 }
 
-// Whether an odd number above 1 has no divisor from 3 to its square root; even divisors are skipped.
-fn odd_is_prime(n: u32) -> bool
-    requires { ⌜ (1 < n) × (n % 2 ≡ 1) ⌝ }
+// The steps from 7 on through the numbers that are no multiples of 2, 3 or 5; after eight, 30 further on, they begin again.
+const STEPS: [u32; 8] = [4, 2, 4, 2, 4, 6, 2, 6];
+
+// Whether such a number above 1 has no divisor from 7 to its square root. Its divisors are such numbers too, so no others are tried.
+fn rest_is_prime(n: u32) -> bool
+    requires { ⌜ (1 < n) × (n % 2 ≢ 0) × (n % 3 ≢ 0) × (n % 5 ≢ 0) ⌝ }
     ensures { λ r. ⌜ (r ≡ true) ↔ Prime n ⌝ }
 {
-    let mut d = 3;
+    let mut d = 7;
+    let mut i = 0;
     while d as u64 * d as u64 <= n as u64 {
         if n % d == 0 {
             return false;
         }
-        d += 2;
+        d += STEPS[i];
+        i = (i + 1) % 8;
     }
     true
 }
@@ -67,7 +72,13 @@ pub fn is_prime(n: u32) -> bool
     if n % 2 == 0 {
         return n == 2;
     }
-    odd_is_prime(n)
+    if n % 3 == 0 {
+        return n == 3;
+    }
+    if n % 5 == 0 {
+        return n == 5;
+    }
+    rest_is_prime(n)
 }
 
 // The inverse of b modulo a by Euclid's steps: from r * x = 1 + k * b follows b * (q * x + k) = a * x - 1, for a = q * b + r.
