@@ -7,9 +7,10 @@ use native.Mathlib.Decide.{ℕ-discrete}
 use native.Mathlib.Omega.{arith}
 use Rattle.field.specs.Prime.{Divides, Prime}
 use Rattle.field.specs.Coprime.{Coprime}
+use Rattle.field.specs.Bezout.{Bezout}
 use Rattle.field.specs.Inverse.{Inverse}
 use Rattle.field.proofs.Residue.{mod-mul, mod-mul-left}
-use Rattle.field.proofs.Coprime.{coprime-step, remainder-pos, one-inverse, step-inverse}
+use Rattle.field.proofs.Coprime.{coprime-step, remainder-pos, last-step, step-up, bezout-inverse}
 
 -- a positive number below p is no multiple of p
 not-multiple : (p a : ℕ) → 0 < a → a < p → Divides p a → ⊥
@@ -23,18 +24,20 @@ prime-coprime p pr a h l d u v = elim (pr .only d u) [
 ]
 
 -- Euclid's steps, as far as a remainder of 1
-euclid : (fuel a b : ℕ) → b ≤ fuel → 0 < b → b < a → Coprime a b → (x : ℕ) × Inverse a b x
+euclid : (fuel a b : ℕ) → b ≤ fuel → 0 < b → b < a → Coprime a b → (x : ℕ) × (k : ℕ) × Bezout a b x k
 euclid zero a b f h l c = absurd (omega arith)
 euclid (suc fuel) a b f h l c = elim (ℕ-discrete b 1) [
-  | yes e ↦ (1, one-inverse a b e l)
+  | yes e ↦ (1, 0, last-step a b e l)
   | no ne ↦
       let r : a % b < b = mod-lt a h in
       let up = euclid fuel b (a % b) (omega arith) (remainder-pos a b c ne) r (coprime-step a b c) in
-      (_, step-inverse a b (up .0) (omega arith) (up .1 .below) (up .1 .product) (omega arith))
+      (_, _, step-up a b (up .0) (up .1) (omega arith) (up .2))
 ]
 
 pub inverse-exists : (p : ℕ) → Prime p → (a : ℕ) → 0 < a → a < p → (b : ℕ) × Inverse p a b
-inverse-exists p pr a h l = euclid a p a (omega arith) h l (prime-coprime p pr a h l)
+inverse-exists p pr a h l =
+    let e = euclid a p a (omega arith) h l (prime-coprime p pr a h l) in
+    (e .0, bezout-inverse p a (e .0) (e .1) (pr .above-one) (e .2))
 
 module _ (p : ℕ) (pr : Prime p) where
   -- a factor that is no multiple of p can be taken away

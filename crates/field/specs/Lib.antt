@@ -1,6 +1,7 @@
 -- What the field's contracts cite.
 pub mod Prime
 pub mod Coprime
+pub mod Bezout
 pub mod Modulus
 pub mod ModulusTest
 pub mod Inverse

@@ -9,6 +9,7 @@ ghost use Rattle.field.specs.Inverse.{Inverse};
 ghost use Rattle.field.specs.Gathered.{gathered};
 ghost use Rattle.field.specs.Calls.{Tests, operandOrder, operandsOrder, fieldSays, residueSays, inverseSays, MakeOutcome, ResidueOutcome, AddOutcome, MultiplyOutcome, InvertOutcome};
 ghost use Rattle.field.specs.Coprime.{Coprime};
+ghost use Rattle.field.specs.Bezout.{Bezout};
 
 pub struct Field {
     pub modulus: u32,
@@ -18,6 +19,12 @@ pub struct Field {
 pub struct Halves {
     pub low: u64,
     pub high: u64,
+}
+
+// What Euclid's steps give for a and b: x times b is 1 more than k times a.
+struct Cofactors {
+    x: u32,
+    k: u32,
 }
 
 // What the tests of a call find.
@@ -81,19 +88,21 @@ pub fn is_prime(n: u32) -> bool
     rest_is_prime(n)
 }
 
-// The inverse of b modulo a by Euclid's steps: from r * x = 1 + k * b follows b * (q * x + k) = a * x - 1, for a = q * b + r.
-fn euclid(a: u64, b: u64) -> u64
-    requires { ⌜ (0 < b) × (b < a) × (a < 2 ^ 32) × Coprime a b ⌝ }
-    ensures { λ x. ⌜ Inverse a b x ⌝ }
+// Euclid's steps, each with one division: from r * x = 1 + k * b follows b * (a - (q * x + k)) = 1 + (b - x) * a, for a = q * b + r.
+fn euclid(a: u32, b: u32) -> Cofactors
+    requires { ⌜ (0 < b) × (b < a) × Coprime a b ⌝ }
+    ensures { λ e. ⌜ Bezout a b (e .x) (e .k) ⌝ }
 {
     if b == 1 {
-        return 1;
+        return Cofactors { x: 1, k: 0 };
     }
     let q = a / b;
     let r = a % b;
-    let x = euclid(b, r);
-    let k = r * x / b;
-    a - (q * x + k)
+    let e = euclid(b, r);
+    Cofactors {
+        x: a - (q * e.x + e.k),
+        k: b - e.x,
+    }
 }
 
 impl Halves {
@@ -228,6 +237,6 @@ impl Field {
         requires { ⌜ Prime (self .modulus) × (0 < a) × (a < self .modulus) ⌝ }
         ensures { λ r. ⌜ Inverse (self .modulus) a r ⌝ }
     {
-        euclid(self.modulus as u64, a as u64) as u32
+        euclid(self.modulus, a).x
     }
 }

@@ -1,21 +1,15 @@
--- A positive number below a prime is coprime to it.
+-- A positive number below a prime is coprime to it, and Euclid's first number is then its inverse.
 use borrow.Author.Needs.{needs}
-use native.Mathlib.Omega.{arith}
 use Rattle.field.proofs.Prime.{prime-coprime}
+use Rattle.field.proofs.Coprime.{bezout-inverse}
 use Rattle.field.proofs.Field.inverse.Statement.{statement}
 use Rattle.field.proofs.Field.inverse.Tie as tie
 
-cast-euclid : tie.Need-cast-euclid
-cast-euclid c = search needs
-
 euclid-requires : tie.Need-euclid-requires
-euclid-requires c κs = (c .before .pre .1, c .before .pre .2, omega arith, prime-coprime _ (c .before .pre .0) _ (c .before .pre .1) (c .before .pre .2))
-
-cast-result : tie.Need-cast-result
-cast-result c = search needs
+euclid-requires c κs = (c .pre .1, c .pre .2, prime-coprime _ (c .pre .0) _ (c .pre .1) (c .pre .2))
 
 returns : tie.Need-returns
-returns c = search needs
+returns c = bezout-inverse _ _ _ _ (c .before .pre .0 .above-one) (c .euclid .ensures)
 
 pub inverse-spec : {M : Type 1} → statement M
-inverse-spec = tie.close (tie.spec cast-euclid euclid-requires cast-result returns)
+inverse-spec = tie.close (tie.spec euclid-requires returns)
