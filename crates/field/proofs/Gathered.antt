@@ -1,11 +1,12 @@
--- Sums of products whose first factors are cut at v bits: how large the products of the parts are, one product more, and the residue.
+-- Sums of products whose first factors are cut at v bits: how large the products of the parts are, one product more, and the residue; and how gathered sums follow each other.
 use mathlib.Core.Path.{_≡_}
-use Prim.Native.Nat.{ℕ, _+_, _*_, _%_, _/_, _^_, _<_}
+use Prim.Native.Nat.{ℕ, _+_, _*_, _%_, _/_, _^_, _<_, _≤_}
 use lib.Pow.{pow-pos, shr-lt}
 use native.Mathlib.Nat.{add-mul, mul-right-comm, mod-add-div', mod-lt, zero-add, add-assoc}
 use native.Mathlib.Omega.{arith}
+use Rattle.field.specs.declared.Halves.{Halves}
+use Rattle.field.specs.Gathered.{Room, Gathers}
 use Rattle.field.proofs.Words.{sum-product}
-use Rattle.field.proofs.Residue.{sum-mul-left}
 
 -- the products of both parts of a number of 2v bits with one of w bits
 pub part-products : (v w a b : ℕ) → a < 2 ^ (v + v) → b < 2 ^ w → (a % 2 ^ v * b < 2 ^ (v + w)) × (a / 2 ^ v * b < 2 ^ (v + w))
@@ -19,6 +20,17 @@ halves-plus v low high a b =
     let e : (a % 2 ^ v + a / 2 ^ v * 2 ^ v) * b ≡ a * b = rw (mod-add-div' a (2 ^ v)) in
     omega (arith, e, add-mul (a % 2 ^ v) (a / 2 ^ v * 2 ^ v) b, add-mul high (a / 2 ^ v * b) (2 ^ v), mul-right-comm (a / 2 ^ v) b (2 ^ v))
 
--- the residue of the upper sum may be taken first
-pub halves-joined : (v p a low high : ℕ) → (a + (low + high % p * 2 ^ v)) % p ≡ (a + (low + high * 2 ^ v)) % p
-halves-joined v p a low high = rw (← add-assoc a low (high % p * 2 ^ v), ← add-assoc a low (high * 2 ^ v)) (sum-mul-left p (a + low) high (2 ^ v))
+-- nothing gathered yet
+pub gathers-none : (s : Halves) → Gathers 0 s 0 s
+gathers-none s = record { sum = omega arith; room = λ m r. rw zero-add at r }
+
+-- one sum after the other
+pub gathers-then : {s h r : Halves} {x y : ℕ} (j k : ℕ) → Gathers j s x h → Gathers k h y r → Gathers (j + k) s (x + y) r
+gathers-then j k a b = record {
+  sum = omega (arith, a .sum, b .sum);
+  room = λ m fits. b .room m (a .room (k + m) (rw add-assoc at fits));
+}
+
+-- more products may be said than there are
+pub gathers-most : {s h : Halves} {x : ℕ} (k l : ℕ) → k ≤ l → Gathers k s x h → Gathers l s x h
+gathers-most k l le a = record { sum = a .sum; room = λ m fits. a .room m (record { low = omega arith; high = omega arith }) }

@@ -3,6 +3,7 @@ pub mod Truth
 pub mod Words
 pub mod Residue
 pub mod Gathered
+pub mod Fixed
 pub mod Coprime
 pub mod Prime
 pub mod Trial

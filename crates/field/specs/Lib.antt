@@ -6,6 +6,7 @@ pub mod Modulus
 pub mod ModulusTest
 pub mod Inverse
 pub mod Gathered
+pub mod Fixed
 pub mod Refusal
 pub mod Answer
 pub mod Calls

@@ -2,11 +2,12 @@
 ghost use mathlib.Core.Path.{_≡_};
 ghost use mathlib.Core.Bool.{true};
 ghost use mathlib.Core.Logic.{_↔_, _≢_};
-ghost use Prim.Native.Nat.{_+_, _*_, _%_, _/_, _^_, _<_};
+ghost use Prim.Native.Nat.{_+_, _*_, _-_, _%_, _^_, _<_, _≤_};
 ghost use Rattle.field.specs.Prime.{Prime};
-ghost use Rattle.field.specs.Modulus.{Modulus};
+ghost use Rattle.field.specs.Modulus.{Modulus, largest};
 ghost use Rattle.field.specs.Inverse.{Inverse};
-ghost use Rattle.field.specs.Gathered.{gathered};
+ghost use Rattle.field.specs.Gathered.{gathered, Room, Gathers};
+ghost use Rattle.field.specs.Fixed.{Fixed};
 ghost use Rattle.field.specs.Calls.{Tests, operandOrder, operandsOrder, fieldSays, residueSays, inverseSays, MakeOutcome, ResidueOutcome, AddOutcome, MultiplyOutcome, InvertOutcome};
 ghost use Rattle.field.specs.Coprime.{Coprime};
 ghost use Rattle.field.specs.Bezout.{Bezout};
@@ -25,6 +26,12 @@ pub struct Halves {
 struct Cofactors {
     x: u32,
     k: u32,
+}
+
+// A factor of many products: c, and c * 2^32 / p.
+pub struct FixedFactor {
+    pub factor: u32,
+    pub quotient: u32,
 }
 
 // What the tests of a call find.
@@ -105,14 +112,35 @@ fn euclid(a: u32, b: u32) -> Cofactors
     }
 }
 
-impl Halves {
-    // Half a word times a word is below 2^48: the sum of so many is below 2^63.
-    pub const MOST: usize = 32768;
+// r modulo p, and p less. That is negative: a word that wraps, above LARGEST.
+fn less(r: u32, p: u32) -> u32
+    requires { ⌜ (r < p + p) × (p ≤ largest) ⌝ }
+    ensures { λ d. ⌜ d + p ≡ 2 ^ 32 + r % p ⌝ }
+{
+    let d = std::num::wrapping_sub_u32(r, p);
+    if d > Field::LARGEST {
+        return d;
+    }
+    std::num::wrapping_sub_u32(d, p)
+}
 
+// a + x modulo p, from a and x - p: where the sum is negative, p is added again.
+fn more(a: u32, d: u32, p: u32) -> u32
+    requires { ⌜ (a < p) × (p ≤ largest) × (2 ^ 32 ≤ d + p) ⌝ }
+    ensures { λ r. ⌜ r ≡ (a + (d + p - 2 ^ 32)) % p ⌝ }
+{
+    let e = std::num::wrapping_add_u32(a, d);
+    if e > Field::LARGEST {
+        return std::num::wrapping_add_u32(e, p);
+    }
+    e
+}
+
+impl Halves {
     // One product more, without a remainder.
     pub fn plus_product(self, a: u32, b: u32) -> Halves
-        requires { ⌜ (self .low < 2 ^ 63) × (self .high < 2 ^ 63) ⌝ }
-        ensures { λ h. ⌜ (h .low ≡ self .low + a % 2 ^ 16 * b) × (h .high ≡ self .high + a / 2 ^ 16 * b) ⌝ }
+        requires { ⌜ Room 1 self ⌝ }
+        ensures { λ h. ⌜ Gathers 1 self (a * b) h ⌝ }
     {
         Halves {
             low: self.low + (a % 65536) as u64 * b as u64,
@@ -224,13 +252,40 @@ impl Field {
         self.residue(a as u64 + b as u64 * c as u64)
     }
 
-    // a and the gathered products: two remainders, however many they are.
-    pub fn plus_halves(self, a: u32, h: Halves) -> u32
-        requires { ⌜ (0 < self .modulus) × (h .low < 2 ^ 63) ⌝ }
-        ensures { λ r. ⌜ r ≡ (a + gathered h) % self .modulus ⌝ }
+    // A residue as the factor of many products: one division for all of them.
+    pub fn fixed(self, c: u32) -> FixedFactor
+        requires { ⌜ c < self .modulus ⌝ }
+        ensures { λ m. ⌜ (m .factor ≡ c) × Fixed (self .modulus) m ⌝ }
+    {
+        let p = self.modulus;
+        let w = c as u64 * 4294967296 / p as u64;
+        FixedFactor {
+            factor: c,
+            quotient: w as u32,
+        }
+    }
+
+    // a + c * y for a fixed c, without a division: q is c * y / p or one less, so that less than 2p is left.
+    pub fn plus_multiple(self, a: u32, m: FixedFactor, y: u32) -> u32
+        requires { ⌜ (a < self .modulus) × Fixed (self .modulus) m ⌝ }
+        ensures { λ r. ⌜ r ≡ (a + m .factor * y) % self .modulus ⌝ }
+    {
+        let p = self.modulus;
+        if Field::LARGEST < p {
+            return self.plus_product(a, m.factor, y);
+        }
+        let q = m.quotient as u64 * y as u64 / 4294967296;
+        let r = (m.factor as u64 * y as u64 - q * p as u64) as u32;
+        more(a, less(r, p), p)
+    }
+
+    // The residue of a gathered sum: two remainders, however many products it has.
+    pub fn sum_of(self, h: Halves) -> u32
+        requires { ⌜ (0 < self .modulus) × Room 1 h ⌝ }
+        ensures { λ r. ⌜ r ≡ gathered h % self .modulus ⌝ }
     {
         let high = self.residue(h.high);
-        self.residue(a as u64 + (h.low + high as u64 * 65536))
+        self.residue(h.low + high as u64 * 65536)
     }
 
     pub fn inverse(self, a: u32) -> u32

@@ -1,4 +1,3 @@
 -- What the contracts of rows cite.
 pub mod View
 pub mod Shape
-pub mod Term

@@ -2,16 +2,16 @@
 ghost use mathlib.Core.Path.{_≡_};
 ghost use Prim.Native.Nat.{ℕ, min, _+_, _*_, _-_, _%_, _^_, _<_, _≤_};
 ghost use lib.ListN.{length};
-ghost use Rattle.field.specs.Gathered.{gathered};
-ghost use Rattle.relation.specs.Sum.{sumTo};
+ghost use Rattle.field.specs.Gathered.{Room, Gathers};
+ghost use Rattle.field.specs.Fixed.{Fixed};
 ghost use Rattle.relation.specs.Product.{conv, dot};
 ghost use Rattle.relation.specs.Operations.{addMultiple, timesX, unit};
 ghost use Rattle.words.specs.Polynomial.{poly};
 ghost use Rattle.row.specs.View.{vector, degreeAt};
 ghost use Rattle.row.specs.Shape.{EndsAt, RowEndsAt, Residues};
-ghost use Rattle.row.specs.Term.{term};
 use degree::Degree;
 use field::Field;
+use field::FixedFactor;
 use field::Halves;
 
 fn smaller(a: usize, b: usize) -> usize
@@ -20,42 +20,27 @@ fn smaller(a: usize, b: usize) -> usize
     if a < b { a } else { b }
 }
 
-// The terms from start to below end of the coefficient of X^at in entry * series, gathered without a remainder.
-fn gather(entry: &[u32], series: &[u32], start: usize, end: usize, at: usize) -> Halves
-    requires { ⌜ (start ≤ end) × (end ≤ start + 32768) × (end ≤ at + 1) × (at < length (now entry)) × (at < length (now series)) ⌝ }
-    ensures { λ h. ⌜ (h .low < 2 ^ 63)
-        × (sumTo start (term (poly (now (entry .entry))) (poly (now (series .entry))) at) + gathered h ≡ sumTo end (term (poly (now (entry .entry))) (poly (now (series .entry))) at)) ⌝ }
+// The end of e's group of four words, or the limit where that comes first. Above its degree an entry has zeros, so loops may end there, and their vector code has no rest.
+fn group_end(e: usize, limit: usize) -> usize
+    requires { ⌜ e < limit ⌝ }
+    ensures { λ r. ⌜ (e < r) × (r ≤ limit) ⌝ }
 {
-    let mut h = Halves { low: 0, high: 0 };
-    let mut t = start;
+    if limit - e > 3 { e / 4 * 4 + 4 } else { limit }
+}
+
+// The sum, with the products of the coefficient of X^at in entry * series, and no remainder. The entry ends at its degree, and no coefficient of the series past X^at counts.
+fn plus_entry_product(sum: Halves, entry: &[u32], series: &[u32], top: Degree, at: usize) -> Halves
+    requires { ⌜ Room (at + 1) sum × (at < length (now entry)) × (at < length (now series)) × EndsAt (poly (now entry)) (top .0) ⌝ }
+    ensures { λ h. ⌜ Gathers (at + 1) sum (conv (poly (now (entry .entry))) (poly (now (series .entry))) at) h ⌝ }
+{
+    let end = group_end(smaller(top.0, at), at + 1);
+    let mut h = sum;
+    let mut t = 0;
     while t < end {
         h = h.plus_product(entry[t], series[at - t]);
         t += 1;
     }
     h
-}
-
-// The sum, plus the coefficient of X^at in entry * series. The entry ends at its degree, and no coefficient of the series past X^at counts.
-fn plus_entry_product(
-    f: Field,
-    sum: u32,
-    entry: &[u32],
-    series: &[u32],
-    top: Degree,
-    at: usize,
-) -> u32
-    requires { ⌜ (sum < f .modulus) × (at < length (now entry)) × (at < length (now series)) × EndsAt (poly (now entry)) (top .0) ⌝ }
-    ensures { λ r. ⌜ r ≡ (sum + conv (poly (now (entry .entry))) (poly (now (series .entry))) at) % f .modulus ⌝ }
-{
-    let end = smaller(top.0, at) + 1;
-    let mut total = sum;
-    let mut t = 0;
-    while t < end {
-        let next = t + smaller(end - t, Halves::MOST);
-        total = f.plus_halves(total, gather(entry, series, t, next, at));
-        t = next;
-    }
-    total
 }
 
 // The coefficient of X^at in the sum of the products of a row's entries with the series.
@@ -73,12 +58,11 @@ pub fn row_product(
     ensures { λ r. ⌜ r ≡ dot n (vector (s + 1) (now (row .entry))) (vector s (now (series .entry))) at % f .modulus ⌝ }
 {
     let width = s + 1;
-    let mut sum = 0;
+    let mut sum = Halves { low: 0, high: 0 };
     let mut k = 0;
     while k < n {
         let top = tops[k];
         sum = plus_entry_product(
-            f,
             sum,
             words::part_at(row, k, width),
             words::part_at(series, k, s),
@@ -87,39 +71,39 @@ pub fn row_product(
         );
         k += 1;
     }
-    sum
+    f.sum_of(sum)
 }
 
-// c times an entry is added to another; it ends at its degree.
-fn add_multiple(f: Field, entry: &mut [u32], from: &[u32], c: u32, top: Degree)
-    requires { ⌜ (0 < f .modulus) × (top .0 < length (now entry)) × (top .0 < length (now from)) × ((t : ℕ) → poly (now entry) t < f .modulus) × EndsAt (poly (now from)) (top .0) ⌝ }
+// m times an entry is added to another; it ends at its degree.
+fn add_multiple(f: Field, entry: &mut [u32], from: &[u32], m: FixedFactor, top: Degree)
+    requires { ⌜ Fixed (f .modulus) m × (top .0 < length (now entry)) × (length (now from) ≡ length (now entry)) × ((t : ℕ) → poly (now entry) t < f .modulus) × EndsAt (poly (now from)) (top .0) ⌝ }
     ensures { λ _. ⌜ (length (now (entry .exit)) ≡ length (now (entry .entry)))
-        × ((t : ℕ) → poly (now (entry .exit)) t ≡ (poly (now (entry .entry)) t + c * poly (now (from .entry)) t) % f .modulus) ⌝ }
+        × ((t : ℕ) → poly (now (entry .exit)) t ≡ (poly (now (entry .entry)) t + m .factor * poly (now (from .entry)) t) % f .modulus) ⌝ }
 {
-    let end = top.0 + 1;
+    let end = group_end(top.0, entry.len());
     let mut t = 0;
     while t < end {
-        entry[t] = f.plus_product(entry[t], c, from[t]);
+        entry[t] = f.plus_multiple(entry[t], m, from[t]);
         t += 1;
     }
 }
 
-// c times a row is added to another, entry by entry.
+// m times a row is added to another, entry by entry.
 fn add_entries(
     f: Field,
     row: &mut [u32],
     from: &[u32],
-    c: u32,
+    m: FixedFactor,
     tops: [Degree; 8],
     n: usize,
     width: usize,
 )
-    requires { ⌜ (0 < f .modulus) × (n ≤ 8) × (length (now row) ≡ n * width) × (length (now from) ≡ n * width) ⌝ }
+    requires { ⌜ Fixed (f .modulus) m × (n ≤ 8) × (length (now row) ≡ n * width) × (length (now from) ≡ n * width) ⌝ }
     requires { ⌜ ((k : ℕ) → k < n → degreeAt tops k < width) ⌝ }
     requires { ⌜ Residues (f .modulus) (vector width (now row)) ⌝ }
     requires { ⌜ RowEndsAt n (vector width (now from)) (degreeAt tops) ⌝ }
     ensures { λ _. ⌜ (length (now (row .exit)) ≡ length (now (row .entry)))
-        × (vector width (now (row .exit)) ≡ addMultiple (f .modulus) c (vector width (now (from .entry))) (vector width (now (row .entry)))) ⌝ }
+        × (vector width (now (row .exit)) ≡ addMultiple (f .modulus) (m .factor) (vector width (now (from .entry))) (vector width (now (row .entry)))) ⌝ }
 {
     let mut k = 0;
     while k < n {
@@ -130,7 +114,7 @@ fn add_entries(
             f,
             &mut row[start..end],
             words::part_at(from, k, width),
-            c,
+            m,
             top,
         );
         k += 1;
@@ -154,8 +138,9 @@ pub fn add_row_multiple(
     ensures { λ _. ⌜ (length (now (row .exit)) ≡ length (now (row .entry)))
         × (vector width (now (row .exit)) ≡ addMultiple (f .modulus) c (vector width (now (from .entry))) (vector width (now (row .entry)))) ⌝ }
 {
-    if c % f.modulus != 0 {
-        add_entries(f, row, from, c, tops, n, width);
+    let a = c % f.modulus;
+    if a != 0 {
+        add_entries(f, row, from, f.fixed(a), tops, n, width);
     }
 }
 

@@ -29,7 +29,7 @@ rem-if1 : tie.Need-rem-if1 Inv-loop μ-loop
 rem-if1 c = omega arith
 
 in-loop : (c : tie.In-loop Inv-loop μ-loop) → 7 * c .before .loop .d ≤ c .before .before .args .n
-in-loop c = root-below _ _ (c .before .loop .inv .from-seven) (c .loop-test .taken)
+in-loop c = root-below (c .before .before .args .n) (c .before .loop .d) (omega arith) (omega arith)
 
 returns : tie.Need-returns Inv-loop μ-loop
 returns c =

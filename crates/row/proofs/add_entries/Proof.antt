@@ -1,5 +1,5 @@
 -- `add_entries` meets its contract: the first k entries have the multiple added, and the others are as they were.
-use mathlib.Core.Path.{_≡_, _∙_}
+use mathlib.Core.Path.{_≡_, sym, _∙_}
 use Prim.Native.Nat.{ℕ, _+_, _*_, _-_, _≤_, _<_}
 use native.Mathlib.Omega.{arith}
 use Rattle.words.specs.Polynomial.{poly}
@@ -13,11 +13,11 @@ use Rattle.row.proofs.add_entries.Statement.{statement}
 use Rattle.row.proofs.add_entries.Tie as tie
 
 abbrev Inv-loop : tie.InvT-loop
-Inv-loop f row₀ from c n width tops k₀ row k =
-    (k ≤ n) × PartsDone width (λ l ys. (t : ℕ) → poly ys t ≡ addMultiple (f .modulus) c (vector width from) (vector width row₀) l t) row₀ row k
+Inv-loop f row₀ from m n width tops k₀ row k =
+    (k ≤ n) × PartsDone width (λ l ys. (t : ℕ) → poly ys t ≡ addMultiple (f .modulus) (m .factor) (vector width from) (vector width row₀) l t) row₀ row k
 
 abbrev μ-loop : tie.MeasureT-loop
-μ-loop f row₀ from c n width tops k₀ row k = n - k
+μ-loop f row₀ from m n width tops k₀ row k = n - k
 
 loop-holds : tie.Need-loop-holds Inv-loop μ-loop
 loop-holds c = (omega arith, parts-none _ _ _)
@@ -68,9 +68,9 @@ add-multiple-requires c κs =
     let h : l .k < args .n = omega arith in
     let fits = entry-fits turn in
     let top = pre .1 .0 (l .k) h in (
-      omega arith,
+      pre .0 .0,
       rw (lent-length (args .width) (l .k) (l .row) (omega arith)) top,
-      rw (c .part-at .ensures, part-length (args .width) (l .k) (args .from .now) (omega arith)) top,
+      rw (c .part-at .ensures) (part-length (args .width) (l .k) (args .from .now) (omega arith) ∙ sym (lent-length (args .width) (l .k) (l .row) (omega arith))),
       λ t. rw (lent-poly (args .width) (l .k) (l .row) t, l .inv .1 .left (l .k) (omega arith)) (pre .1 .1 .0 (l .k) t),
       λ t g. rw (c .part-at .ensures) (pre .1 .1 .1 (l .k) h t g),
     )
@@ -109,7 +109,7 @@ returns c =
     let from-out = vector-out (args .n) (args .width) (args .from .now) (omega arith) in (
       l .inv .1 .same,
       row-ext (args .n) (args .width) (l .row) _ (omega arith) (λ k h. l .inv .1 .done k (omega arith))
-          (λ k t h. zero-addMultiple (args .f .modulus) (args .c) _ _ (row-out k t h) (from-out k t h)),
+          (λ k t h. zero-addMultiple (args .f .modulus) (args .m .factor) _ _ (row-out k t h) (from-out k t h)),
     )
 
 pub add-entries-spec : {M : Type 1} → statement M

@@ -10,31 +10,35 @@ use Rattle.row.proofs.add_multiple.Statement.{statement}
 use Rattle.row.proofs.add_multiple.Tie as tie
 
 abbrev Inv-loop : tie.InvT-loop
-Inv-loop f entry₀ from c end t₀ entry t = (t ≤ end) × Written (λ k. (poly entry₀ k + c * poly from k) % f .modulus) entry₀ entry t
+Inv-loop f entry₀ from m end t₀ entry t = (t ≤ end) × Written (λ k. (poly entry₀ k + m .factor * poly from k) % f .modulus) entry₀ entry t
 
 abbrev μ-loop : tie.MeasureT-loop
-μ-loop f entry₀ from c end t₀ entry t = end - t
+μ-loop f entry₀ from m end t₀ entry t = end - t
 
-add-end : tie.Need-add-end Inv-loop μ-loop
-add-end c = omega arith
+group-end-requires : tie.Need-group-end-requires Inv-loop μ-loop
+group-end-requires c κs = omega arith
 
 loop-holds : tie.Need-loop-holds Inv-loop μ-loop
 loop-holds c = (omega arith, written-none _ _)
 
-mul-plus-product : tie.Need-mul-plus-product Inv-loop μ-loop
-mul-plus-product c = omega arith
+mul-plus-multiple : tie.Need-mul-plus-multiple Inv-loop μ-loop
+mul-plus-multiple c = omega arith
 
-slice-read-plus-product : tie.Need-slice-read-plus-product Inv-loop μ-loop
-slice-read-plus-product c = omega arith
+slice-read-plus-multiple : tie.Need-slice-read-plus-multiple Inv-loop μ-loop
+slice-read-plus-multiple c = omega arith
 
-mul-plus-product-2 : tie.Need-mul-plus-product-2 Inv-loop μ-loop
-mul-plus-product-2 c = omega arith
+mul-plus-multiple-2 : tie.Need-mul-plus-multiple-2 Inv-loop μ-loop
+mul-plus-multiple-2 c = omega arith
 
-shared-slice-read-plus-product : tie.Need-shared-slice-read-plus-product Inv-loop μ-loop
-shared-slice-read-plus-product c = omega arith
+shared-slice-read-plus-multiple : tie.Need-shared-slice-read-plus-multiple Inv-loop μ-loop
+shared-slice-read-plus-multiple c = omega arith
 
-plus-product-requires : tie.Need-plus-product-requires Inv-loop μ-loop
-plus-product-requires c κs = omega arith
+plus-multiple-requires : tie.Need-plus-multiple-requires Inv-loop μ-loop
+unfolding poly
+plus-multiple-requires c κs =
+    let l = c .before .before .before .loop in
+    let pre = c .before .before .before .before .before .before .before .pre in
+    (rw (l .inv .1 .left (l .t) (omega arith)) (pre .3 (l .t)), pre .0)
 
 mul-entry : tie.Need-mul-entry Inv-loop μ-loop
 mul-entry c = omega arith
@@ -52,7 +56,7 @@ loop-again : tie.Need-loop-again Inv-loop μ-loop
 unfolding poly
 loop-again c =
     let l = c .before .before .before .before .loop in
-    (omega arith, written-turn _ _ (l .entry) (l .t) _ (omega arith) (c .plus-product .ensures ∙ rw (l .inv .1 .left (l .t) (omega arith))) (l .inv .1))
+    (omega arith, written-turn _ _ (l .entry) (l .t) _ (omega arith) (c .plus-multiple .ensures ∙ rw (l .inv .1 .left (l .t) (omega arith))) (l .inv .1))
 
 same-length : tie.Need-same-length Inv-loop μ-loop
 same-length c = omega arith
@@ -75,13 +79,13 @@ add-multiple-spec =
     (tie.spec
     Inv-loop
     μ-loop
-    add-end
+    group-end-requires
     loop-holds
-    mul-plus-product
-    slice-read-plus-product
-    mul-plus-product-2
-    shared-slice-read-plus-product
-    plus-product-requires
+    mul-plus-multiple
+    slice-read-plus-multiple
+    mul-plus-multiple-2
+    shared-slice-read-plus-multiple
+    plus-multiple-requires
     mul-entry
     slice-write-entry
     add-t

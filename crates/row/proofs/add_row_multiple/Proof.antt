@@ -1,14 +1,18 @@
--- `add_row_multiple` meets its contract: a multiple of p leaves words below p as they are.
+-- `add_row_multiple` meets its contract: the factor's residue is added, and a multiple of p leaves words below p as they are.
 use mathlib.Core.Path.{refl, sym, _∙_, fun-ext}
-use native.Mathlib.Nat.{mod-eq-of-lt}
-use Rattle.field.proofs.Residue.{drop-mult}
+use native.Mathlib.Nat.{mod-eq-of-lt, mod-lt}
+use native.Mathlib.Omega.{arith}
+use Rattle.field.proofs.Residue.{drop-mult, sum-mul-left}
 use Rattle.relation.specs.Operations.{addMultiple}
 use borrow.Author.Needs.{needs}
 use Rattle.row.proofs.add_row_multiple.Statement.{statement}
 use Rattle.row.proofs.add_row_multiple.Tie as tie
 
-rem-if1 : tie.Need-rem-if1
-rem-if1 c = search needs
+rem-a : tie.Need-rem-a
+rem-a c = search needs
+
+fixed-requires : tie.Need-fixed-requires
+fixed-requires c κs = mod-lt _ (omega arith)
 
 add-entries-requires : tie.Need-add-entries-requires
 add-entries-requires c κs = search needs
@@ -17,7 +21,10 @@ same-length : tie.Need-same-length
 same-length c = search needs
 
 returns : tie.Need-returns
-returns c = search needs
+unfolding addMultiple
+returns c =
+    let added = c .before .before .add-entries .ensures in
+    (added .0, added .1 ∙ rw (c .before .before .before .fixed .ensures .0) (fun-ext λ k. fun-ext λ t. sum-mul-left _ _ _ _))
 
 returns-2 : tie.Need-returns-2
 unfolding addMultiple
@@ -25,4 +32,4 @@ returns-2 c = (refl, fun-ext λ k. fun-ext λ t. sym (drop-mult _ _ _ _ (c .if1 
 
 pub add-row-multiple-spec : {M : Type 1} → statement M
 add-row-multiple-spec =
-    tie.close (tie.spec rem-if1 add-entries-requires same-length returns returns-2)
+    tie.close (tie.spec rem-a fixed-requires add-entries-requires same-length returns returns-2)

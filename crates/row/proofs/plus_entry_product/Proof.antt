@@ -1,63 +1,72 @@
--- `plus_entry_product` meets its contract: before each group the total is the sum with the first t terms of the product's coefficient.
-use mathlib.Core.Path.{_≡_, sym, _∙_}
-use Prim.Native.Nat.{min, _+_, _-_, _%_, _≤_}
-use native.Mathlib.Nat.{add-zero, mod-eq-of-lt}
+-- `plus_entry_product` meets its contract: after t turns the first t terms of the product's coefficient are gathered, and past the end there are none.
+use mathlib.Core.Path.{_≡_}
+use Prim.Native.Nat.{_+_, _*_, _-_, _≤_}
 use native.Mathlib.Omega.{arith}
+use Rattle.field.specs.Gathered.{Gathers}
+use Rattle.field.proofs.Gathered.{gathers-none, gathers-most}
 use Rattle.relation.specs.Sum.{sumTo}
 use Rattle.words.specs.Polynomial.{poly}
-use Rattle.row.specs.Term.{term}
-use Rattle.row.proofs.Turn.{sum-turns, conv-end}
+use Rattle.row.proofs.Turn.{sum-turn, conv-end}
 use borrow.Author.Needs.{needs}
 use Rattle.row.proofs.plus_entry_product.Statement.{statement}
 use Rattle.row.proofs.plus_entry_product.Tie as tie
 
 abbrev Inv-loop : tie.InvT-loop
-Inv-loop f sum entry series at end total₀ t₀ total t =
-    (t ≤ end) × (total ≡ (sum + sumTo t (term (poly entry) (poly series) at)) % f .modulus)
+Inv-loop entry series at end h₀ t₀ h t = (t ≤ end) × Gathers t h₀ (sumTo t (λ i. poly entry i * poly series (at - i))) h
 
 abbrev μ-loop : tie.MeasureT-loop
-μ-loop f sum entry series at end total₀ t₀ total t = end - t
+μ-loop entry series at end h₀ t₀ h t = end - t
 
 smaller-requires : tie.Need-smaller-requires Inv-loop μ-loop
 smaller-requires c κs = search needs
 
-add-end : tie.Need-add-end Inv-loop μ-loop
-add-end c = omega arith
+add-group-end : tie.Need-add-group-end Inv-loop μ-loop
+add-group-end c = omega arith
+
+group-end-requires : tie.Need-group-end-requires Inv-loop μ-loop
+group-end-requires c κs = omega arith
 
 loop-holds : tie.Need-loop-holds Inv-loop μ-loop
 unfolding sumTo
-loop-holds c = (omega arith, sym (rw add-zero (mod-eq-of-lt (omega arith))))
+loop-holds c = (omega arith, gathers-none _)
 
-sub-smaller : tie.Need-sub-smaller Inv-loop μ-loop
-sub-smaller c = omega arith
+mul-plus-product : tie.Need-mul-plus-product Inv-loop μ-loop
+mul-plus-product c = omega arith
 
-smaller-requires-2 : tie.Need-smaller-requires-2 Inv-loop μ-loop
-smaller-requires-2 c κs = search needs
+shared-slice-read-plus-product : tie.Need-shared-slice-read-plus-product Inv-loop μ-loop
+shared-slice-read-plus-product c = omega arith
 
-add-next : tie.Need-add-next Inv-loop μ-loop
-add-next c = omega arith
+sub-plus-product : tie.Need-sub-plus-product Inv-loop μ-loop
+sub-plus-product c = omega arith
 
-gather-requires : tie.Need-gather-requires Inv-loop μ-loop
-gather-requires c κs = omega arith
+mul-plus-product-2 : tie.Need-mul-plus-product-2 Inv-loop μ-loop
+mul-plus-product-2 c = omega arith
 
-plus-halves-requires : tie.Need-plus-halves-requires Inv-loop μ-loop
-plus-halves-requires c κs = omega arith
+shared-slice-read-plus-product-2 : tie.Need-shared-slice-read-plus-product-2 Inv-loop μ-loop
+shared-slice-read-plus-product-2 c = omega arith
+
+plus-product-requires : tie.Need-plus-product-requires Inv-loop μ-loop
+plus-product-requires c κs = c .before .before .before .loop .inv .1 .room 1 (record { low = omega arith; high = omega arith })
+
+add-t : tie.Need-add-t Inv-loop μ-loop
+add-t c = omega arith
 
 loop-less : tie.Need-loop-less Inv-loop μ-loop
 loop-less c = omega arith
 
 loop-again : tie.Need-loop-again Inv-loop μ-loop
+unfolding poly
 loop-again c =
     let l = c .before .before .before .before .loop in
-    (omega arith, sum-turns _ _ (l .t) _ _ _ _ _ (l .inv .1) (c .plus-halves .ensures) (c .before .gather .ensures .1))
+    (omega arith, sum-turn (l .t) 1 (l .t) _ (l .inv .1) (c .plus-product .ensures))
 
 returns : tie.Need-returns Inv-loop μ-loop
 returns c =
     let l = c .before .loop in
-    let start = c .before .before .before .before .before in
+    let start = c .before .before .before .before .before .before in
     let args = start .args in
-    let end : l .t ≡ min (args .top .0) (args .at) + 1 = omega arith in
-    l .inv .1 ∙ rw (conv-end (poly (args .entry .now)) (poly (args .series .now)) (args .top .0) (args .at) (start .pre .3), end)
+    rw (conv-end (poly (args .entry .now)) (poly (args .series .now)) (args .top .0) (args .at) (l .t) (start .pre .3) (omega arith) (omega arith))
+    (gathers-most (l .t) (args .at + 1) (omega arith) (l .inv .1))
 
 pub plus-entry-product-spec : {M : Type 1} → statement M
 plus-entry-product-spec =
@@ -66,13 +75,16 @@ plus-entry-product-spec =
     Inv-loop
     μ-loop
     smaller-requires
-    add-end
+    add-group-end
+    group-end-requires
     loop-holds
-    sub-smaller
-    smaller-requires-2
-    add-next
-    gather-requires
-    plus-halves-requires
+    mul-plus-product
+    shared-slice-read-plus-product
+    sub-plus-product
+    mul-plus-product-2
+    shared-slice-read-plus-product-2
+    plus-product-requires
+    add-t
     loop-less
     loop-again
     returns)

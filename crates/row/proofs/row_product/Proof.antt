@@ -1,8 +1,11 @@
--- `row_product` meets its contract: after k turns the sum is that of the first k products.
-use mathlib.Core.Path.{_≡_, sym, _∙_}
-use Prim.Native.Nat.{_+_, _-_, _%_, _≤_, _<_}
-use native.Mathlib.Nat.{zero-add, zero-mod, mod-lt}
+-- `row_product` meets its contract: after k turns the products of the first k entries are gathered, and all of them have room.
+use mathlib.Core.Path.{_≡_, _∙_}
+use Prim.Native.Nat.{_+_, _*_, _-_, _≤_, _<_}
+use native.Mathlib.Nat.{zero-add, zero-mul}
 use native.Mathlib.Omega.{arith}
+use Rattle.field.specs.Gathered.{Gathers}
+use Rattle.field.proofs.Gathered.{gathers-none, gathers-most}
+use Rattle.words.proofs.Sizes.{row-small}
 use Rattle.row.specs.View.{vector}
 use Rattle.words.proofs.Part.{part-fits, part-length}
 use Rattle.row.proofs.Turn.{sum-turn}
@@ -12,7 +15,8 @@ use Rattle.row.proofs.row_product.Statement.{statement}
 use Rattle.row.proofs.row_product.Tie as tie
 
 abbrev Inv-loop : tie.InvT-loop
-Inv-loop f row series n s at tops width sum₀ k₀ sum k = (k ≤ n) × (sum ≡ (0 + sumTo k (λ i. conv (vector width row i) (vector s series i) at)) % f .modulus)
+Inv-loop f row series n s at tops width sum₀ k₀ sum k =
+    (k ≤ n) × Gathers (k * (at + 1)) sum₀ (sumTo k (λ i. conv (vector width row i) (vector s series i) at)) sum
 
 abbrev μ-loop : tie.MeasureT-loop
 μ-loop f row series n s at tops width sum₀ k₀ sum k = n - k
@@ -22,7 +26,7 @@ add-width c = omega arith
 
 loop-holds : tie.Need-loop-holds Inv-loop μ-loop
 unfolding sumTo
-loop-holds c = (omega arith, sym (rw zero-add (zero-mod _)))
+loop-holds c = (omega arith, rw zero-mul (gathers-none _))
 
 mul-top : tie.Need-mul-top Inv-loop μ-loop
 mul-top c = omega arith
@@ -48,8 +52,10 @@ plus-entry-product-requires c κs =
     let l = c .before .before .before .before .loop in
     let h : l .k < args .n = omega arith in
     let entry = part-length (args .s + 1) (l .k) (args .row .now) (omega (arith, part-fits (args .n) (args .s + 1) (l .k) h)) in
-    let series = part-length (args .s) (l .k) (args .series .now) (omega (arith, part-fits (args .n) (args .s) (l .k) h)) in (
-      rw (l .inv .1) (mod-lt _ (omega arith)),
+    let series = part-length (args .s) (l .k) (args .series .now) (omega (arith, part-fits (args .n) (args .s) (l .k) h)) in
+    let fits = part-fits (args .n) (args .at + 1) (l .k) h in
+    let small = row-small (args .n) (args .at + 1) (omega arith) (omega arith) in (
+      l .inv .1 .room (args .at + 1) (record { low = omega arith; high = omega arith }),
       rw (c .before .part-at .ensures, entry) (omega arith),
       rw (c .part-at2 .ensures, series) (omega arith),
       λ t g. rw (c .before .part-at .ensures) (start .pre .1 (l .k) h t g),
@@ -65,14 +71,23 @@ loop-again : tie.Need-loop-again Inv-loop μ-loop
 unfolding vector
 loop-again c =
     let l = c .before .before .before .before .before .loop in
-    (omega arith, sum-turn _ _ (l .k) _ _ _ (l .inv .1) (c .plus-entry-product .ensures ∙ rw (c .before .before .part-at .ensures, c .before .part-at2 .ensures)))
+    let at = c .before .before .before .before .before .before .before .before .args .at in
+    let entry : Gathers (at + 1) (l .sum) _ (c .plus-entry-product .result) = rw (c .before .before .part-at .ensures, c .before .part-at2 .ensures) at (c .plus-entry-product .ensures) in
+    (omega arith, gathers-most (l .k * (at + 1) + (at + 1)) ((l .k + 1) * (at + 1)) (omega arith) (sum-turn _ (at + 1) (l .k) _ (l .inv .1) entry))
+
+sum-of-requires : tie.Need-sum-of-requires Inv-loop μ-loop
+sum-of-requires c κs =
+    let l = c .before .loop in
+    let args = c .before .before .before .before .args in
+    let small = row-small (l .k) (args .at + 1) (omega arith) (omega arith) in
+    (omega arith, l .inv .1 .room 1 (record { low = omega arith; high = omega arith }))
 
 returns : tie.Need-returns Inv-loop μ-loop
 unfolding dot
 returns c =
-    let l = c .before .loop in
-    let e : l .k ≡ c .before .before .before .before .args .n = omega arith in
-    l .inv .1 ∙ rw (zero-add, e)
+    let l = c .before .before .loop in
+    let e : l .k ≡ c .before .before .before .before .before .args .n = omega arith in
+    c .sum-of .ensures ∙ rw (l .inv .1 .sum, zero-add, e)
 
 pub row-product-spec : {M : Type 1} → statement M
 row-product-spec =
@@ -90,4 +105,5 @@ row-product-spec =
     add-k
     loop-less
     loop-again
+    sum-of-requires
     returns)
