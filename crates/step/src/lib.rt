@@ -175,10 +175,12 @@ fn move_by(
     words::copy(moved, &mut basis[start..end]);
 }
 
-// The same with working rows of its own. h is minus the inverse of row i's coefficient.
+// The same, where both are working rows. h is minus the inverse of row i's coefficient.
 fn move_row(
     f: Field,
     basis: &mut [u32],
+    pivot: &mut [u32],
+    moved: &mut [u32],
     c: [u32; 8],
     h: u32,
     i: usize,
@@ -186,34 +188,23 @@ fn move_row(
     n: usize,
     width: usize,
 )
-    requires { ⌜ (0 < f .modulus) × (n ≤ 8) × (i < n) × (width ≤ 256) × (length (now basis) ≡ n * (n * width)) ⌝ }
+    requires { ⌜ (0 < f .modulus) × (n ≤ 8) × (i < n) × (width ≤ 256) × (length (now basis) ≡ n * (n * width)) × (length (now pivot) ≡ n * width) × (length (now moved) ≡ n * width) ⌝ }
     requires { ⌜ ((k : ℕ) → k < n → degreeAt tops k + 1 < width) ⌝ }
     requires { ⌜ BasisShape (f .modulus) n (rowOf n width (now basis)) (degreeAt tops) ⌝ }
     ensures { λ _. ⌜ (length (now (basis .exit)) ≡ length (now (basis .entry)))
         × Moved (f .modulus) n (factor (f .modulus) h (λ k. getD c k 0)) (degreeAt tops) i (rowOf n width (now (basis .entry))) (rowOf n width (now (basis .exit))) ⌝ }
 {
     let size = n * width;
-    let mut pivot = [0u32; 2048];
-    let mut moved = [0u32; 2048];
-    words::copy(words::part_at(basis, i, size), &mut pivot[..size]);
-    move_by(
-        f,
-        basis,
-        &pivot[..size],
-        &mut moved[..size],
-        c,
-        h,
-        i,
-        tops,
-        n,
-        width,
-    );
+    words::copy(words::part_at(basis, i, size), pivot);
+    move_by(f, basis, pivot, moved, c, h, i, tops, n, width);
 }
 
-// One order more: the reduced minimal basis of V_(at+1) from that of V_at, in place. The answer has the new pivot degrees.
+// One order more: the reduced minimal basis of V_(at+1) from that of V_at, in place. The answer has the new pivot degrees. pivot and moved are working rows.
 fn step(
     f: Field,
     basis: &mut [u32],
+    pivot: &mut [u32],
+    moved: &mut [u32],
     d: &[u32],
     series: &[u32],
     tops: [Degree; 8],
@@ -221,7 +212,7 @@ fn step(
     s: usize,
     at: usize,
 ) -> [Degree; 8]
-    requires { ⌜ Prime (f .modulus) × (n ≤ 8) × (at < s) × (s ≤ 255) × TypeWords n (now d) × (length (now series) ≡ n * s) × (length (now basis) ≡ n * (n * (s + 1))) ⌝ }
+    requires { ⌜ Prime (f .modulus) × (n ≤ 8) × (at < s) × (s ≤ 255) × TypeWords n (now d) × (length (now series) ≡ n * s) × (length (now basis) ≡ n * (n * (s + 1))) × (length (now pivot) ≡ n * (s + 1)) × (length (now moved) ≡ n * (s + 1)) ⌝ }
     requires { ⌜ ReducedBasis (f .modulus) n (offsetOf (now d)) (vector s (now series)) at (rowOf n (s + 1) (now basis)) (degreeAt tops) ⌝ }
     ensures { λ r. ⌜ (length (now (basis .exit)) ≡ length (now (basis .entry)))
         × ReducedBasis (f .modulus) n (offsetOf (now (d .entry))) (vector s (now (series .entry))) (at + 1) (rowOf n (s + 1) (now (basis .exit))) (degreeAt r)
@@ -234,7 +225,7 @@ fn step(
         Found::Row(i) => {
             let p = f.modulus;
             let g = f.inverse(c[i]);
-            move_row(f, basis, c, p - g, i, tops, n, width);
+            move_row(f, basis, pivot, moved, c, p - g, i, tops, n, width);
             let top = tops[i];
             let e = top.0;
             let mut next = tops;
@@ -259,7 +250,7 @@ fn identity(basis: &mut [u32], n: usize, width: usize)
     }
 }
 
-// The reduced minimal basis of V_s: one step for each order. The answer has the pivot degrees, and 0 past them.
+// The reduced minimal basis of V_s: one step for each order, all with the same two working rows. The answer has the pivot degrees, and 0 past them.
 pub fn reduced_basis(
     f: Field,
     n: usize,
@@ -273,11 +264,25 @@ pub fn reduced_basis(
         × ReducedBasis (f .modulus) n (offsetOf (now (d .entry))) (vector s (now (series .entry))) s (rowOf n (s + 1) (now (out .exit))) (degreeAt r)
         × TopsEndAt n r ⌝ }
 {
+    let size = n * (s + 1);
+    let mut pivot = [0u32; 2048];
+    let mut moved = [0u32; 2048];
     identity(out, n, s + 1);
     let mut tops = [Degree(0); 8];
     let mut at = 0;
     while at < s {
-        let next = step(f, out, d, series, tops, n, s, at);
+        let next = step(
+            f,
+            out,
+            &mut pivot[..size],
+            &mut moved[..size],
+            d,
+            series,
+            tops,
+            n,
+            s,
+            at,
+        );
         tops = next;
         at += 1;
     }
