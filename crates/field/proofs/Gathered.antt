@@ -2,7 +2,7 @@
 use Rattle.std.proofs.Common.{◌≡◌, ℕ, ◌+◌, ◌*◌, ◌/◌, ◌%◌, ◌^◌, ◌<◌, ◌≤◌, add_assoc, mod-lt, add-mul, zero-add, mul_right_comm, arith, pow_pos, shr_lt}
 use native.Mathlib.Nat.{mod-add-div'}
 use Rattle.field.specs.declared.Halves.{Halves}
-use Rattle.field.specs.Gathered.{Room, Gathers}
+use Rattle.field.specs.Gathered.{Gathers}
 use Rattle.field.proofs.Words.{sum_product}
 
 -- the products of both parts of a number of 2v bits with one of w bits

@@ -1,4 +1,6 @@
 // The field of residues modulo a prime: the calls given to users, which test every argument, and the operations that only the engine uses.
+#![tactic(auto)]
+
 ghost use Rattle.std.specs.Prelude.{◌≡◌, ◌+◌, ◌-◌, ◌*◌, ◌%◌, ◌^◌, ◌<◌, ◌≤◌, true, ◌≢◌, ◌↔◌};
 ghost use Rattle.field.specs.Prime.{Prime};
 ghost use Rattle.field.specs.Modulus.{Modulus, largest};
@@ -9,52 +11,52 @@ ghost use Rattle.field.specs.Calls.{Tests, operand_order, operands_order, field_
 ghost use Rattle.field.specs.Coprime.{Coprime};
 ghost use Rattle.field.specs.Bezout.{Bezout};
 
-#[derive(Drop)]
+#[derive(Clone, Copy)]
 pub struct Field {
     pub modulus: u32,
 }
 
 // A sum of products whose first factors are cut in two: low has what their lower 16 bits give, high what their upper 16 bits give.
-#[derive(Drop)]
+#[derive(Clone, Copy)]
 pub struct Halves {
     pub low: u64,
     pub high: u64,
 }
 
 // What Euclid's steps give for a and b: x times b is 1 more than k times a.
-#[derive(Drop)]
+#[derive(Clone, Copy)]
 struct Cofactors {
     x: u32,
     k: u32,
 }
 
 // A factor of many products: c, and c * 2^32 / p.
-#[derive(Drop)]
+#[derive(Clone, Copy)]
 pub struct FixedFactor {
     pub factor: u32,
     pub quotient: u32,
 }
 
 // What the tests of a call find.
-#[derive(Drop)]
+#[derive(Clone, Copy)]
 pub enum Tested {
     Passed,
     Refused(u32),
 }
 
-#[derive(Drop)]
+#[derive(Clone, Copy)]
 pub enum FieldAnswer {
     Is(Field),
     Refused(u32),
 }
 
-#[derive(Drop)]
+#[derive(Clone, Copy)]
 pub enum ResidueAnswer {
     Is(u32),
     Refused(u32),
 }
 
-#[derive(Drop)]
+#[derive(Clone, Copy)]
 pub enum InverseAnswer {
     Is(u32),
     Refused(u32),
