@@ -1,14 +1,16 @@
 // The two counters of document 000, deg and deg_d, as types of their own, so that one cannot stand in for the other.
+#![tactic(auto)]
+
 ghost use Rattle.std.specs.Prelude.{◌≡◌, ◌<◌, ◌^◌, pos, ◌-ℤ◌};
 ghost use Rattle.std.specs.Int.Signed.{lt_z};
 ghost use Rattle.sizes.specs.Entry.{entry_of};
 
 // deg: the plain degree of an entry. It is never compared for the order of rows.
-#[derive(Drop)]
+#[derive(Clone, Copy)]
 pub struct Degree(pub usize);
 
 // deg_d: the shifted degree of a row. It can be negative.
-#[derive(Drop)]
+#[derive(Clone, Copy)]
 pub struct ShiftedDegree(pub i64);
 
 impl ShiftedDegree {

@@ -1,4 +1,6 @@
 // The sizes of document 01: the tests with which calls on n series begin, in the order of their refusals.
+#![tactic(auto)]
+
 ghost use Rattle.std.specs.Prelude.{◌≡◌, true, ◌↔◌, ◌≤◌};
 ghost use Rattle.field.specs.Calls.{Tests};
 ghost use Rattle.words.specs.Some.{Some};
@@ -8,7 +10,7 @@ ghost use Rattle.sizes.specs.Orders.{start_order, sizes_order, job_order};
 use field::{Field, Tested};
 
 // What a job file and a text job say besides the type and the series.
-#[derive(Drop)]
+#[derive(Clone, Copy)]
 pub struct JobSizes {
     pub p: u32,
     pub n: u32,

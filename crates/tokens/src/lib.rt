@@ -1,11 +1,13 @@
 // The words of a text, each with its line, and a word read as a number: what the readers of texts share.
+#![tactic(auto)]
+
 ghost use Rattle.std.specs.Prelude.{◌≡◌, ℕ, ◌+◌, ◌*◌, ◌-◌, ◌^◌, ◌<◌, ◌≤◌, length, get_or, take, drop};
 ghost use Rattle.tokens.specs.Tokens.{class_of, scan, comment, word, rest};
 ghost use Rattle.tokens.specs.Number.{numeral_of, numeral_from};
 ghost use Rattle.tokens.specs.Taking.{Position, TakesWord};
 
 // What a byte is to the scan.
-#[derive(Drop)]
+#[derive(Clone, Copy)]
 pub enum Class {
     Newline,
     Hash,
@@ -14,21 +16,21 @@ pub enum Class {
 }
 
 // A word read as a number.
-#[derive(Drop)]
+#[derive(Clone, Copy)]
 pub enum Numeral {
     Is(u32),
     NotNumber,
     TooLarge,
 }
 
-#[derive(Drop)]
+#[derive(Clone, Copy)]
 struct Place {
     pub at: usize,
     pub line: usize,
 }
 
 // The next word, as a part of the text, with its line; or the line on which the text ends.
-#[derive(Drop)]
+#[derive(Clone, Copy)]
 pub enum Taken {
     Word { from: usize, to: usize, line: usize },
     End { line: usize },

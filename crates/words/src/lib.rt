@@ -1,4 +1,6 @@
 // Words that are lent: the parts that they are cut into, copies, and whether one is too large.
+#![tactic(auto)]
+
 ghost use Rattle.std.specs.Prelude.{◌≡◌, true, ◌↔◌, ◌+◌, ◌*◌, ◌≤◌, length};
 ghost use Rattle.words.specs.Part.{part};
 ghost use Rattle.words.specs.Some.{Some};
