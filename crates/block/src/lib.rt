@@ -159,9 +159,9 @@ fn blocks_for(count: usize) -> usize
 
 // Writes count blocks numbered from first, with 125 of the words in each, zero past their end.
 fn write_blocks(out: &mut [u8], first: u32, count: usize, words: &[u32])
-    requires out_len { length out.old ≡ 512 * count }
-    requires count_bound { first + count ≤ 4294967296 }
-    requires count_in_bounds { 125 * count ≤ length words.now + 125 }
+    requires out_length { length out.old ≡ 512 * count }
+    requires numbers { first + count ≤ 4294967296 }
+    requires words_enough { 125 * count ≤ length words.now + 125 }
     ensures { out.new ≡ blocks_of first count words.now }
 {
     let mut b = 0;
@@ -175,8 +175,8 @@ fn write_blocks(out: &mut [u8], first: u32, count: usize, words: &[u32])
 
 // Writes the file of the words to the first bytes of out, and answers its number of blocks.
 pub fn write_file(words: &[u32], out: &mut [u8]) -> u32
-    requires words_len_bound { length words.now ≤ 4294967295 }
-    requires words_in_bounds { 512 * blocks_for (length words.now) ≤ length out.old }
+    requires words_few { length words.now ≤ 4294967295 }
+    requires out_room { 512 * blocks_for (length words.now) ≤ length out.old }
     ensures { (result ≡ blocks_for (length words.now)) × (out.new ≡ over (file_of words.now) out.old) }
 {
     let blocks = blocks_for(words.len());
@@ -235,8 +235,8 @@ pub fn is_bad_length(file: usize, largest: usize) -> bool
 
 // Tests count blocks in turn, which should be numbered from first.
 pub fn test_blocks(file: &[u8], first: u32, count: usize) -> Tested
-    requires file_len { length file.now ≡ 512 * count }
-    requires count_bound { first + count ≤ 4294967296 }
+    requires file_length { length file.now ≡ 512 * count }
+    requires numbers { first + count ≤ 4294967296 }
     ensures { Tests (faults first count file.now) result }
 {
     let mut b = 0;

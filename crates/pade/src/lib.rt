@@ -70,8 +70,8 @@ fn pair_series(f: Field, g: &[u32], series: &mut [u32])
 
 // The least row of the reduced basis of -1 and g, of type (k - 1, N - k) and order N.
 fn least_row(f: Field, k: usize, g: &[u32], series: &mut [u32], basis: &mut [u32]) -> usize
-    requires pair_sizes { PairSizes f.modulus k g.now }
-    requires series_len { (length series.old ≡ 2 * length g.now) × (length basis.old ≡ basis_length 2 (length g.now)) }
+    requires sizes { PairSizes f.modulus k g.now }
+    requires buffers { (length series.old ≡ 2 * length g.now) × (length basis.old ≡ basis_length 2 (length g.now)) }
     ensures { LeastPair f.modulus k g.now basis.new result }
 {
     let order = g.len();
@@ -118,8 +118,8 @@ fn find_fraction(
     r: &mut [u32],
     t: &mut [u32],
 ) -> bool
-    requires pair_lent { PairLent f.modulus k g.now (length r.old) (length t.old) }
-    requires series_len { (length series.old ≡ 2 * length g.now) × (length basis.old ≡ basis_length 2 (length g.now)) }
+    requires lent { PairLent f.modulus k g.now (length r.old) (length t.old) }
+    requires buffers { (length series.old ≡ 2 * length g.now) × (length basis.old ≡ basis_length 2 (length g.now)) }
     ensures { FractionOrNone f.modulus k g.now r.old t.old result r.new t.new }
 {
     let width = g.len() + 1;

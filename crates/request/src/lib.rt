@@ -235,9 +235,9 @@ pub fn read_list(word: &[u8], out: &mut [u32]) -> Listed
 
 // Reads every word of a text as an argument. The numbers go to values, and to ends where each argument ends.
 pub fn read_arguments(text: &[u8], values: &mut [u32], ends: &mut [usize]) -> Arguments
-    ensures value { result ≡ (arguments_of (length values.old) (length ends.old) text.now).says }
-    ensures values_after { values.new ≡ over (arguments_of (length values.old) (length ends.old) text.now).numbers values.old }
-    ensures ends_after { ends.new ≡ over (arguments_of (length values.old) (length ends.old) text.now).ends ends.old }
+    ensures said { result ≡ (arguments_of (length values.old) (length ends.old) text.now).says }
+    ensures values_left { values.new ≡ over (arguments_of (length values.old) (length ends.old) text.now).numbers values.old }
+    ensures ends_left { ends.new ≡ over (arguments_of (length values.old) (length ends.old) text.now).ends ends.old }
 {
     let mut at = 0;
     let mut line = 1;

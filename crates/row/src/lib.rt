@@ -1,4 +1,6 @@
 // Rows of polynomials as words: n entries of equal width, low coefficient first. Loops end at the pivot degrees.
+#![tactic(auto)]
+
 ghost use Rattle.std.specs.Prelude.{◌≡◌, ℕ, min, ◌+◌, ◌*◌, ◌-◌, ◌%◌, ◌^◌, ◌<◌, ◌≤◌, length};
 ghost use Rattle.field.specs.Gathered.{Room, Gathers};
 ghost use Rattle.field.specs.Fixed.{Fixed};
@@ -50,8 +52,8 @@ pub fn row_product(
     s: usize,
     at: usize,
 ) -> u32
-    requires lt_modulus { (1 < f.modulus) × (n ≤ 8) × (at < s) × (s ≤ 255) × (length row.now ≡ n * (s + 1)) × (length series.now ≡ n * s) }
-    requires row_ends_at { RowEndsAt n (vector (s + 1) row.now) (degree_at tops) }
+    requires sizes { (1 < f.modulus) × (n ≤ 8) × (at < s) × (s ≤ 255) × (length row.now ≡ n * (s + 1)) × (length series.now ≡ n * s) }
+    requires row_ends { RowEndsAt n (vector (s + 1) row.now) (degree_at tops) }
     ensures { result ≡ dot n (vector (s + 1) row.now) (vector s series.now) at % f.modulus }
 {
     let width = s + 1;
@@ -95,10 +97,10 @@ fn add_entries(
     n: usize,
     width: usize,
 )
-    requires fixed { Fixed f.modulus m × (n ≤ 8) × (length row.old ≡ n * width) × (length from.now ≡ n * width) }
-    requires by_index { (k : ℕ) → k < n → degree_at tops k < width }
+    requires sizes { Fixed f.modulus m × (n ≤ 8) × (length row.old ≡ n * width) × (length from.now ≡ n * width) }
+    requires tops_below { (k : ℕ) → k < n → degree_at tops k < width }
     requires residues { Residues f.modulus (vector width row.old) }
-    requires row_ends_at { RowEndsAt n (vector width from.now) (degree_at tops) }
+    requires row_ends { RowEndsAt n (vector width from.now) (degree_at tops) }
     ensures { (length row.new ≡ length row.old)
         × (vector width row.new ≡ add_multiple f.modulus m.factor (vector width from.now) (vector width row.old)) }
 {
@@ -128,10 +130,10 @@ pub fn add_row_multiple(
     n: usize,
     width: usize,
 )
-    requires modulus_nonzero { (0 < f.modulus) × (n ≤ 8) × (length row.old ≡ n * width) × (length from.now ≡ n * width) }
-    requires by_index { (k : ℕ) → k < n → degree_at tops k < width }
+    requires sizes { (0 < f.modulus) × (n ≤ 8) × (length row.old ≡ n * width) × (length from.now ≡ n * width) }
+    requires tops_below { (k : ℕ) → k < n → degree_at tops k < width }
     requires residues { Residues f.modulus (vector width row.old) }
-    requires row_ends_at { RowEndsAt n (vector width from.now) (degree_at tops) }
+    requires row_ends { RowEndsAt n (vector width from.now) (degree_at tops) }
     ensures { (length row.new ≡ length row.old)
         × (vector width row.new ≡ add_multiple f.modulus c (vector width from.now) (vector width row.old)) }
 {
@@ -156,8 +158,8 @@ fn times_x(entry: &[u32], into: &mut [u32])
 
 // X times a row whose entries' last places are free.
 pub fn row_times_x(row: &[u32], into: &mut [u32], n: usize, width: usize)
-    requires n_bound { (n ≤ 8) × (0 < width) × (length row.now ≡ n * width) × (length into.old ≡ n * width) }
-    requires by_index { (k : ℕ) → k < n → vector width row.now k (width - 1) ≡ 0 }
+    requires sizes { (n ≤ 8) × (0 < width) × (length row.now ≡ n * width) × (length into.old ≡ n * width) }
+    requires room { (k : ℕ) → k < n → vector width row.now k (width - 1) ≡ 0 }
     ensures { (length into.new ≡ length into.old) × (vector width into.new ≡ times_x (vector width row.now)) }
 {
     let mut k = 0;

@@ -61,8 +61,8 @@ fn coefficients(
     s: usize,
     at: usize,
 ) -> [u32; 8]
-    requires lt_modulus { (1 < f.modulus) × (n ≤ 8) × (at < s) × (s ≤ 255) × (length basis.now ≡ n * (n * (s + 1))) × (length series.now ≡ n * s) }
-    requires by_index { (l : ℕ) → l < n → RowEndsAt n (row_of n (s + 1) basis.now l) (degree_at tops) }
+    requires sizes { (1 < f.modulus) × (n ≤ 8) × (at < s) × (s ≤ 255) × (length basis.now ≡ n * (n * (s + 1))) × (length series.now ≡ n * s) }
+    requires rows_end { (l : ℕ) → l < n → RowEndsAt n (row_of n (s + 1) basis.now l) (degree_at tops) }
     ensures { ((l : ℕ) → l < n → get_or result l 0 ≡ dot n (row_of n (s + 1) basis.now l) (vector s series.now) at % f.modulus)
         × ((l : ℕ) → n ≤ l → get_or result l 0 ≡ 0) }
 {
@@ -88,10 +88,10 @@ fn clear_rows(
     n: usize,
     width: usize,
 )
-    requires modulus_nonzero { (0 < f.modulus) × (n ≤ 8) × (i < n) × (width ≤ 256) × (length basis.old ≡ n * (n * width)) × (length pivot.now ≡ n * width) }
-    requires by_index { (k : ℕ) → k < n → degree_at tops k < width }
-    requires by_index_2 { (l : ℕ) → l < n → Residues f.modulus (row_of n width basis.old l) }
-    requires row_ends_at { RowEndsAt n (vector width pivot.now) (degree_at tops) }
+    requires sizes { (0 < f.modulus) × (n ≤ 8) × (i < n) × (width ≤ 256) × (length basis.old ≡ n * (n * width)) × (length pivot.now ≡ n * width) }
+    requires tops_below { (k : ℕ) → k < n → degree_at tops k < width }
+    requires residues { (l : ℕ) → l < n → Residues f.modulus (row_of n width basis.old l) }
+    requires pivot_ends { RowEndsAt n (vector width pivot.now) (degree_at tops) }
     ensures { (length basis.new ≡ length basis.old)
         × ((l : ℕ) → l < n → l ≢ i → row_of n width basis.new l
         ≡ add_multiple f.modulus (factor f.modulus h (λ k. get_or c k 0) l) (vector width pivot.now) (row_of n width basis.old l))
@@ -120,11 +120,11 @@ fn clear_columns(
     n: usize,
     width: usize,
 )
-    requires modulus_nonzero { (0 < f.modulus) × (n ≤ 8) × (width ≤ 256) × (length basis.now ≡ n * (n * width)) × (length moved.old ≡ n * width) }
-    requires by_index { (k : ℕ) → k < n → degree_at tops k < width }
+    requires sizes { (0 < f.modulus) × (n ≤ 8) × (width ≤ 256) × (length basis.now ≡ n * (n * width)) × (length moved.old ≡ n * width) }
+    requires tops_below { (k : ℕ) → k < n → degree_at tops k < width }
     requires residues { Residues f.modulus (vector width moved.old) }
-    requires by_index_2 { (l : ℕ) → l < n → l ≢ i → RowEndsAt n (row_of n width basis.now l) (degree_at tops) }
-    requires by_index_3 { (l k : ℕ) → l < n → k < n → l ≢ i → k ≢ i → l ≢ k → row_of n width basis.now l k (degree_at tops k) ≡ 0 }
+    requires rows_end { (l : ℕ) → l < n → l ≢ i → RowEndsAt n (row_of n width basis.now l) (degree_at tops) }
+    requires columns_clear { (l k : ℕ) → l < n → k < n → l ≢ i → k ≢ i → l ≢ k → row_of n width basis.now l k (degree_at tops k) ≡ 0 }
     ensures { (length moved.new ≡ length moved.old)
         × (vector width moved.new
         ≡ add_multiples f.modulus n (column_factor f.modulus i (degree_at tops) (vector width moved.old)) (row_of n width basis.now) (vector width moved.old)) }
@@ -157,10 +157,10 @@ fn move_by(
     n: usize,
     width: usize,
 )
-    requires modulus_nonzero { (0 < f.modulus) × (n ≤ 8) × (i < n) × (width ≤ 256) × (length basis.old ≡ n * (n * width)) × (length pivot.now ≡ n * width) × (length moved.old ≡ n * width) }
-    requires by_index { (k : ℕ) → k < n → degree_at tops k + 1 < width }
-    requires basis_shape { BasisShape f.modulus n (row_of n width basis.old) (degree_at tops) }
-    requires pivot_value { vector width pivot.now ≡ row_of n width basis.old i }
+    requires sizes { (0 < f.modulus) × (n ≤ 8) × (i < n) × (width ≤ 256) × (length basis.old ≡ n * (n * width)) × (length pivot.now ≡ n * width) × (length moved.old ≡ n * width) }
+    requires tops_below { (k : ℕ) → k < n → degree_at tops k + 1 < width }
+    requires shape { BasisShape f.modulus n (row_of n width basis.old) (degree_at tops) }
+    requires pivot { vector width pivot.now ≡ row_of n width basis.old i }
     ensures { (length basis.new ≡ length basis.old)
         × Moved f.modulus n (factor f.modulus h (λ k. get_or c k 0)) (degree_at tops) i (row_of n width basis.old) (row_of n width basis.new) }
 {
@@ -186,9 +186,9 @@ fn move_row(
     n: usize,
     width: usize,
 )
-    requires modulus_nonzero { (0 < f.modulus) × (n ≤ 8) × (i < n) × (width ≤ 256) × (length basis.old ≡ n * (n * width)) × (length pivot.old ≡ n * width) × (length moved.old ≡ n * width) }
-    requires by_index { (k : ℕ) → k < n → degree_at tops k + 1 < width }
-    requires basis_shape { BasisShape f.modulus n (row_of n width basis.old) (degree_at tops) }
+    requires sizes { (0 < f.modulus) × (n ≤ 8) × (i < n) × (width ≤ 256) × (length basis.old ≡ n * (n * width)) × (length pivot.old ≡ n * width) × (length moved.old ≡ n * width) }
+    requires tops_below { (k : ℕ) → k < n → degree_at tops k + 1 < width }
+    requires shape { BasisShape f.modulus n (row_of n width basis.old) (degree_at tops) }
     ensures { (length basis.new ≡ length basis.old)
         × Moved f.modulus n (factor f.modulus h (λ k. get_or c k 0)) (degree_at tops) i (row_of n width basis.old) (row_of n width basis.new) }
 {
@@ -210,8 +210,8 @@ fn step(
     s: usize,
     at: usize,
 ) -> [Degree; 8]
-    requires prime { Prime f.modulus × (n ≤ 8) × (at < s) × (s ≤ 255) × TypeWords n d.now × (length series.now ≡ n * s) × (length basis.old ≡ n * (n * (s + 1))) × (length pivot.old ≡ n * (s + 1)) × (length moved.old ≡ n * (s + 1)) }
-    requires reduced_basis { ReducedBasis f.modulus n (offset_of d.now) (vector s series.now) at (row_of n (s + 1) basis.old) (degree_at tops) }
+    requires sizes { Prime f.modulus × (n ≤ 8) × (at < s) × (s ≤ 255) × TypeWords n d.now × (length series.now ≡ n * s) × (length basis.old ≡ n * (n * (s + 1))) × (length pivot.old ≡ n * (s + 1)) × (length moved.old ≡ n * (s + 1)) }
+    requires reduced { ReducedBasis f.modulus n (offset_of d.now) (vector s series.now) at (row_of n (s + 1) basis.old) (degree_at tops) }
     ensures { (length basis.new ≡ length basis.old)
         × ReducedBasis f.modulus n (offset_of d.now) (vector s series.now) (at + 1) (row_of n (s + 1) basis.new) (degree_at result)
         × ((l : ℕ) → n ≤ l → degree_at result l ≡ degree_at tops l) }
