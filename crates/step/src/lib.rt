@@ -1,4 +1,6 @@
 // From the reduced minimal basis of V_j to that of V_(j+1): document 000, Theorem 6, with the basis kept reduced at every order.
+#![tactic(auto)]
+
 ghost use Rattle.std.specs.Prelude.{◌≡◌, ◌≢◌, ℕ, ◌+◌, ◌*◌, ◌-◌, ◌%◌, ◌<◌, ◌≤◌, length, get_or};
 ghost use Rattle.field.specs.Prime.{Prime};
 ghost use Rattle.relation.specs.Product.{dot};
@@ -13,7 +15,7 @@ ghost use Rattle.step.specs.Factor.{factor, column_factor, BasisShape, Moved};
 use degree::{Degree, ShiftedDegree};
 use field::Field;
 
-#[derive(Drop)]
+#[derive(Clone, Copy)]
 pub enum Found {
     Row(usize),
     Nothing,
