@@ -1,4 +1,6 @@
 // The engine's calls: minimal basis, approximant and row view, on lent words. Each tests every argument and has no premise.
+#![tactic(auto)]
+
 ghost use Rattle.std.specs.Prelude.{◌≡◌, true, ◌↔◌, ◌++◌, ◌+◌, ◌*◌, ◌<◌, ◌≤◌, length};
 ghost use Rattle.field.specs.Calls.{Tests};
 ghost use Rattle.words.specs.Some.{Some};
@@ -14,13 +16,13 @@ ghost use Rattle.engine.specs.RowView.{ViewFits, RowViewed};
 use field::{Field, Tested};
 
 // The least row's number, counted from 1, and how many orders made V smaller.
-#[derive(Drop)]
+#[derive(Clone, Copy)]
 pub struct BasisResult {
     pub least: u32,
     pub count: u32,
 }
 
-#[derive(Drop)]
+#[derive(Clone, Copy)]
 pub enum BasisAnswer {
     Found(BasisResult),
     Refused(u32),

@@ -1,4 +1,6 @@
 // The reduced minimal basis of V_s, its least row and its count, on arguments that a call has tested: what every call with a basis shares.
+#![tactic(auto)]
+
 ghost use Rattle.std.specs.Prelude.{◌≡◌, ℕ, ◌<◌, ◌≤◌, length};
 ghost use Rattle.relation.specs.Sum.{sum_to};
 ghost use Rattle.row.specs.View.{degree_at};
@@ -11,7 +13,7 @@ use field::Field;
 use step::Found;
 
 // The least row, counted from 0, and how many orders made V smaller.
-#[derive(Drop)]
+#[derive(Clone, Copy)]
 pub struct Solved {
     pub least: usize,
     pub count: usize,
