@@ -1,4 +1,6 @@
 // The Padé pair: a fraction r / t in lowest terms whose expansion is g to order N, on lent words. It tests every argument and has no premise.
+#![tactic(auto)]
+
 ghost use Rattle.std.specs.Prelude.{◌≡◌, ◌+◌, ◌*◌, ◌<◌, ◌≤◌, length};
 ghost use Rattle.field.specs.Prime.{Prime};
 ghost use Rattle.field.specs.Calls.{Tests};
@@ -14,7 +16,7 @@ ghost use Rattle.pade.specs.Work.{LeastPair, Scaled, DividedUnlessZero, Fraction
 
 use field::{Field, Tested};
 
-#[derive(Drop)]
+#[derive(Clone, Copy)]
 pub enum PairAnswer {
     Written,
     Refused(u32),

@@ -1,4 +1,6 @@
 // The bases of many sets of series that share modulus, sizes and type, in one call. It tests every argument and has no premise.
+#![tactic(auto)]
+
 ghost use Rattle.std.specs.Prelude.{◌≡◌, ◌*◌, ◌≤◌, length};
 ghost use Rattle.field.specs.Calls.{Tests};
 ghost use Rattle.words.specs.Part.{part};
@@ -16,7 +18,7 @@ use field::{Field, Tested};
 // The words of a set's answer.
 const ANSWER_LENGTH: usize = 3;
 
-#[derive(Drop)]
+#[derive(Clone, Copy)]
 pub enum BasesAnswer {
     Answered,
     Refused(u32),
