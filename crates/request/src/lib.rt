@@ -1,4 +1,6 @@
 // A request: a line with the name of a call and its arguments, each a list of numbers (docs/FORMATS.md). What reads it is here.
+#![tactic(auto)]
+
 ghost use Rattle.std.specs.Prelude.{◌≡◌, true, ◌↔◌, ◌-◌, ◌<◌, ◌≤◌, length, get_or, take, drop, replicate};
 ghost use Rattle.words.specs.Lent.{over};
 ghost use Rattle.request.specs.Cut.{index_of};
@@ -18,7 +20,7 @@ const STAR: u8 = b'*';
 const COMMA: u8 = b',';
 
 // What is wrong with a word that is no list of numbers, or with the words of a line.
-#[derive(Drop)]
+#[derive(Clone, Copy)]
 pub enum Slip {
     NotNumber,
     TooLarge,
@@ -28,7 +30,7 @@ pub enum Slip {
 }
 
 // A number that stands some times, or numbers that are drawn.
-#[derive(Drop)]
+#[derive(Clone, Copy)]
 pub enum Piece {
     Same { value: u32, count: u32 },
     Drawn { seed: u32, modulus: u32, count: u32 },
@@ -36,14 +38,14 @@ pub enum Piece {
 }
 
 // How many numbers were written.
-#[derive(Drop)]
+#[derive(Clone, Copy)]
 pub enum Listed {
     Length(usize),
     Wrong(Slip),
 }
 
 // How many arguments were read.
-#[derive(Drop)]
+#[derive(Clone, Copy)]
 pub enum Arguments {
     Count(usize),
     Wrong(Slip),

@@ -5,9 +5,7 @@ use Prim.Native.Nat.{ℕ, zero, suc, ◌-◌}
 use native.Mathlib.Omega.{arith}
 use lib.ListN.{get_or}
 use Rattle.request.specs.Argument.{start_of}
-use borrow.Author.Rules.{rules}
-use Rattle.request.proofs.start_of.Statement.{statement}
-use Rattle.request.proofs.start_of.Tie as tie
+use Rattle.request.proofs.start_of.Goals as goal
 
 first : (ends : List ℕ) (i : ℕ) → i ≡ 0 → 0 ≡ start_of ends i
 unfolding start_of
@@ -18,17 +16,8 @@ unfolding start_of
 later ends zero r h e = absurd (h refl)
 later ends (suc i) r h e = let f : suc i - 1 ≡ i = omega arith in e ∙ ap (λ (k : ℕ). get_or ends k 0) f
 
-sub-end-at : tie.Need-overflow-sub-end-at
-sub-end-at c = search rules
+pub returns-then-i-eq0 : goal.returns-then-i-eq0
+returns-then-i-eq0 c = first _ _ c.if-i-eq0.true
 
-end-at-requires : tie.Need-end-at-requires
-end-at-requires c κs = search rules
-
-returns : tie.Need-returns
-returns c = first _ _ c.if1.true
-
-returns-2 : tie.Need-returns-2
-returns-2 c = later _ _ _ c.before.if1.false c.end-at.ensures
-
-pub start-of-spec : {M : Type 1} → statement M
-start-of-spec = tie.close (tie.spec sub-end-at end-at-requires returns returns-2)
+pub returns-else-i-eq0 : goal.returns-else-i-eq0
+returns-else-i-eq0 c = later _ _ _ c.if-i-eq0.false c.end_at.ensures
