@@ -1,8 +1,8 @@
 -- A signed number of 64 bits is shown by its digits: those of z, or, where z is negative, those of one more than -1 - z.
-use mathlib.Core.Path.{◌≡◌, refl, ap, sym, ◌∙◌, subst}
+use mathlib.Core.Path.{◌≡◌, ap, sym, ◌∙◌, subst}
 use mathlib.Core.Bool.{true, false}
-use mathlib.Core.List.{List, ◌∷◌}
-use Prim.Native.Nat.{ℕ, zero, suc, ◌+◌}
+use mathlib.Core.List.{◌∷◌}
+use Prim.Native.Nat.{ℕ, suc, ◌+◌}
 use native.Mathlib.Numerals.{add-one}
 use native.Mathlib.Omega.{arith}
 use borrow.Author.Tests.{ltb-true, le-ltb}

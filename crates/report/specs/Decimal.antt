@@ -1,5 +1,5 @@
 -- Decimal: a number's decimal digits in ASCII, without leading zeros, and those of an integer, with a minus sign where it is negative.
-use Rattle.std.specs.Prelude.{Bool, true, false, List, ◌∷◌, ℕ, zero, suc, ◌/◌, ltb, ℤ, pos, negsuc}
+use Rattle.std.specs.Prelude.{true, false, List, ◌∷◌, ℕ, zero, suc, ◌/◌, ltb, ℤ, pos, negsuc}
 use Rattle.io.specs.Digits.{last_digits}
 
 -- one digit for a number below ten, else one more than its tenth part has; k bounds the steps

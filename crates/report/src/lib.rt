@@ -1,4 +1,6 @@
 // The text of a basis: the lines that `relations` prints, written to a lent buffer. Each function appends its piece of text at a position and answers the next position.
+#![tactic(auto)]
+
 ghost use Rattle.std.specs.Prelude.{◌≡◌, ◌+◌, ◌*◌, ◌-◌, ◌<◌, ◌≤◌, length};
 ghost use Rattle.field.specs.Calls.{Tests};
 ghost use Rattle.report.specs.Decimal.{decimal, signed};
@@ -13,7 +15,7 @@ use field::Tested;
 // Every text fits: 11 bytes for each number, at 8 rows of 8 entries of 256 words.
 pub const TEXT: usize = 180_809;
 
-#[derive(Drop)]
+#[derive(Clone, Copy)]
 pub enum TextAnswer {
     Length(usize),
     Refused(u32),
