@@ -3,6 +3,8 @@
 //
 // These calls serve the readers and writers of files of blocks, which lend them parts of the right length: each asks for that length
 // and is listed in docs/PREMISES.md.
+#![tactic(auto)]
+
 ghost use Rattle.std.specs.Prelude.{◌≡◌, ◌+◌, ◌*◌, ◌/◌, ◌≤◌, true, ◌↔◌, length, slice_index};
 ghost use Rattle.block.specs.Word.{word_at};
 ghost use Rattle.block.specs.Store.{stored};
@@ -23,7 +25,7 @@ ghost use Rattle.words.specs.Some.{Some};
 use field::Tested;
 
 // Check A and check B.
-#[derive(Drop)]
+#[derive(Clone, Copy)]
 pub struct Checks {
     pub a: u32,
     pub b: u32,
