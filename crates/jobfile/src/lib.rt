@@ -1,5 +1,7 @@
 // Job files (document 01, "Job file"): a reader that accepts exactly what is laid out, and a writer beside it. Their layout is one
 // definition, `layout`. The two public calls test every argument and have no premise; the other functions serve them.
+#![tactic(auto)]
+
 ghost use Rattle.std.specs.Prelude.{◌≡◌, ◌+◌, ◌*◌, ◌≤◌, length};
 ghost use Rattle.field.specs.Refusal.{NoTest};
 ghost use Rattle.field.specs.Calls.{Tests};
@@ -25,14 +27,14 @@ pub const FILE_BYTES: usize = 8704;
 const JOB_WORDS: usize = 3 + TYPE_WORDS + SERIES_WORDS;
 
 // What the file says, or the refusal.
-#[derive(Drop)]
+#[derive(Clone, Copy)]
 pub enum JobAnswer {
     Job(JobSizes),
     Refused(u32),
 }
 
 // How many blocks were written, or the refusal.
-#[derive(Drop)]
+#[derive(Clone, Copy)]
 pub enum WriteAnswer {
     Blocks(u32),
     Refused(u32),
