@@ -1,10 +1,9 @@
 -- The printed degrees are degrees: in the text of a basis that was found, the line of row i has its pivot degree and its shifted degree.
-use mathlib.Core.Path.{◌≡◌, refl, ap, sym, ◌∙◌, subst}
+use mathlib.Core.Path.{◌≡◌, ap}
 use mathlib.Core.List.{List}
 use Prim.Native.Nat.{ℕ, ◌+◌, ◌*◌, ◌<◌}
 use lib.IntN.{ℤ}
 use lib.ListN.{get_or}
-use Rattle.relation.specs.Degree.{Degree}
 use Rattle.relation.specs.Pivot.{Pivot}
 use Rattle.relation.specs.ShiftedDegree.{ShiftedDegree}
 use Rattle.words.specs.Part.{part}
@@ -12,7 +11,6 @@ use Rattle.words.specs.Polynomial.{poly}
 use Rattle.sizes.specs.Entry.{type_of}
 use Rattle.row.specs.View.{vector, row}
 use Rattle.solve.specs.Found.{BasisFound}
-use Rattle.report.specs.Entry.{degree}
 use Rattle.report.specs.Text.{shifted_degree, pivot_line, row_line}
 use Rattle.report.proofs.Entry.{degree_is}
 

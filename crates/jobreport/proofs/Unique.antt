@@ -1,11 +1,9 @@
 -- One file has one text: no second outcome meets the contract of `print_job`.
-use mathlib.Core.Path.{◌≡◌, refl, ap, sym, ◌∙◌, subst}
+use mathlib.Core.Path.{◌≡◌, sym, ◌∙◌, subst}
 use mathlib.Core.Logic.{inl, inr}
-use mathlib.Core.List.{List, [], ◌∷◌, ◌++◌}
-use Prim.Native.Nat.{ℕ, ◌+◌}
-use native.Mathlib.Omega.{arith}
+use mathlib.Core.List.{List}
+use Prim.Native.Nat.{ℕ}
 use lib.ListN.{length}
-use Rattle.field.specs.Refusal.{Outcome}
 use Rattle.field.proofs.Refusal.{first_unique, first_or_none}
 use Rattle.solve.proofs.Found.{found_unique}
 use Rattle.jobfile.specs.Lengths.{type_words, series_words}
@@ -13,7 +11,6 @@ use Rattle.jobfile.specs.Job.{Job, Admitted}
 use Rattle.jobfile.specs.Orders.{reader_order}
 use Rattle.jobfile.proofs.LaidOut.{layout_passes}
 use Rattle.jobfile.proofs.Theorems.{layout_injective}
-use Rattle.report.specs.Text.{basis_text, refusal_text}
 use Rattle.report.specs.declared.TextAnswer.{TextAnswer}
 use Rattle.report.specs.Calls.{text_says, refusal_text_order}
 use Rattle.report.proofs.Calls.{text_unique}

@@ -1,7 +1,7 @@
 -- Printed: the text that the program `relations` prints for a job file: the basis of the job, or `refused` and the reader's number.
-use Rattle.std.specs.Prelude.{◌≡◌, ◌⊎◌, List, [], ◌∷◌, ◌++◌, ℕ, ◌+◌, length, drop}
-use Rattle.field.specs.Refusal.{Order, ◌when◌, First, Outcome}
-use Rattle.field.specs.Answer.{Answer, result, refusal}
+use Rattle.std.specs.Prelude.{◌≡◌, ◌⊎◌, List, ℕ, ◌+◌, length}
+use Rattle.field.specs.Refusal.{First}
+use Rattle.field.specs.Answer.{Answer}
 use Rattle.solve.specs.Found.{BasisFound}
 use Rattle.jobfile.specs.Lengths.{type_words, series_words}
 use Rattle.jobfile.specs.Job.{Job, Admitted}

@@ -1,4 +1,6 @@
 // The text that is printed for a job file: read the job, work out its basis, write the lines.
+#![tactic(auto)]
+
 ghost use Rattle.std.specs.Prelude.{◌≡◌, length};
 ghost use Rattle.report.specs.Calls.{text_says};
 ghost use Rattle.sizes.specs.Lengths.{basis_length};
