@@ -1,4 +1,6 @@
 // The text job: a plain text with the numbers of a job, for people. Parts of the parser answer where they stopped.
+#![tactic(auto)]
+
 ghost use Rattle.std.specs.Prelude.{◌≡◌, ◌++◌, ◌≤◌, length, drop};
 ghost use Rattle.report.specs.Wrote.{Room, Wrote};
 ghost use Rattle.tokens.specs.Tokens.{rest};
@@ -13,7 +15,7 @@ use sizes::JobSizes;
 use tokens::{Numeral, Taken};
 
 // What is wrong with a text job. The last five are the refusals 1, 2, 3, 5 and 6 of document 01.
-#[derive(Drop)]
+#[derive(Clone, Copy)]
 pub enum Slip {
     NotNumber,
     TooLarge,
@@ -27,20 +29,20 @@ pub enum Slip {
 }
 
 // The next number with its line, and the position after it; or what is wrong.
-#[derive(Drop)]
+#[derive(Clone, Copy)]
 pub enum Next {
     Number { value: u32, at: usize, line: usize },
     Wrong { slip: Slip, line: usize },
 }
 
 // The position after the numbers that were asked for; or what is wrong.
-#[derive(Drop)]
+#[derive(Clone, Copy)]
 pub enum Reached {
     At { at: usize, line: usize },
     Wrong { slip: Slip, line: usize },
 }
 
-#[derive(Drop)]
+#[derive(Clone, Copy)]
 pub enum Parsed {
     Job(JobSizes),
     Wrong { slip: Slip, line: usize },

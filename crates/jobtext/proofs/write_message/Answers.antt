@@ -1,0 +1,11 @@
+-- `write_message` meets its contract: every message fits.
+use native.Mathlib.Omega.{arith}
+use Rattle.report.proofs.Wrote.{wrote_whole}
+use Rattle.jobtext.proofs.Message.{message_fits}
+use Rattle.jobtext.proofs.write_message.Goals as goal
+
+pub put_message-requires : goal.put_message-requires
+put_message-requires c = record { fits = omega (arith, message_fits c.args.slip c.args.line c.ranges.line.fits) }
+
+pub returns : goal.returns
+returns c = wrote_whole (record { fits = omega (arith, message_fits c.args.slip c.args.line c.ranges.line.fits) }) c.put_message.ensures
