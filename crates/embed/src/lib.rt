@@ -1,5 +1,8 @@
-// The engine for programs that are not written in Rattle: one exported function for each public call, on numbers and lent slices.
+// The engine for programs that are not written in Rattle: one function for each public call, on numbers and lent slices.
 // Each answers a status word, 0 or the refusal's number, and writes the values of a result to a lent answer slice. None has a premise.
+// Crate embed_c exports them to C.
+#![tactic(auto)]
+
 ghost use Rattle.std.specs.Prelude.{◌≡◌, [], ◌∷◌, length};
 ghost use Rattle.field.specs.Calls.{residue_says, inverse_says, MakeOutcome, AddOutcome, MultiplyOutcome, InvertOutcome};
 ghost use Rattle.engine.specs.Answers.{basis_says};
@@ -168,8 +171,7 @@ fn tell_parsed(r: Parsed, answer: &mut [u32]) -> u32
     }
 }
 
-#[unsafe(no_mangle)]
-pub extern "C" fn relations_modulus(p: u32) -> u32
+pub fn relations_modulus(p: u32) -> u32
     ensures { Told (MakeOutcome p) result }
 {
     match Field::make(p) {
@@ -178,8 +180,7 @@ pub extern "C" fn relations_modulus(p: u32) -> u32
     }
 }
 
-#[unsafe(no_mangle)]
-pub extern "C" fn relations_add(p: u32, a: u32, b: u32, answer: &mut [u32]) -> u32
+pub fn relations_add(p: u32, a: u32, b: u32, answer: &mut [u32]) -> u32
     ensures { Given residue_answer_length (AddOutcome p a b) Unit answer.old result answer.new }
 {
     if answer.len() != RESIDUE_ANSWER_LENGTH {
@@ -188,8 +189,7 @@ pub extern "C" fn relations_add(p: u32, a: u32, b: u32, answer: &mut [u32]) -> u
     tell_residue(Field::add(p, a, b), answer)
 }
 
-#[unsafe(no_mangle)]
-pub extern "C" fn relations_multiply(p: u32, a: u32, b: u32, answer: &mut [u32]) -> u32
+pub fn relations_multiply(p: u32, a: u32, b: u32, answer: &mut [u32]) -> u32
     ensures { Given residue_answer_length (MultiplyOutcome p a b) Unit answer.old result answer.new }
 {
     if answer.len() != RESIDUE_ANSWER_LENGTH {
@@ -198,8 +198,7 @@ pub extern "C" fn relations_multiply(p: u32, a: u32, b: u32, answer: &mut [u32])
     tell_residue(Field::multiply(p, a, b), answer)
 }
 
-#[unsafe(no_mangle)]
-pub extern "C" fn relations_invert(p: u32, a: u32, answer: &mut [u32]) -> u32
+pub fn relations_invert(p: u32, a: u32, answer: &mut [u32]) -> u32
     ensures { Given residue_answer_length (InvertOutcome p a) Unit answer.old result answer.new }
 {
     if answer.len() != RESIDUE_ANSWER_LENGTH {
@@ -208,8 +207,7 @@ pub extern "C" fn relations_invert(p: u32, a: u32, answer: &mut [u32]) -> u32
     tell_inverse(Field::invert(p, a), answer)
 }
 
-#[unsafe(no_mangle)]
-pub extern "C" fn relations_basis(
+pub fn relations_basis(
     p: u32,
     n: u32,
     s: u32,
@@ -226,8 +224,7 @@ pub extern "C" fn relations_basis(
     tell_basis(engine::basis(p, n, s, d, series, basis), answer)
 }
 
-#[unsafe(no_mangle)]
-pub extern "C" fn relations_bases(
+pub fn relations_bases(
     p: u32,
     n: u32,
     s: u32,
@@ -245,8 +242,7 @@ pub extern "C" fn relations_bases(
     }
 }
 
-#[unsafe(no_mangle)]
-pub extern "C" fn relations_approximant(
+pub fn relations_approximant(
     p: u32,
     n: u32,
     d: &[u32],
@@ -262,8 +258,7 @@ pub extern "C" fn relations_approximant(
     tell_basis(engine::approximant(p, n, d, series, basis), answer)
 }
 
-#[unsafe(no_mangle)]
-pub extern "C" fn relations_pair(p: u32, k: u32, g: &[u32], r: &mut [u32], t: &mut [u32]) -> u32
+pub fn relations_pair(p: u32, k: u32, g: &[u32], r: &mut [u32], t: &mut [u32]) -> u32
     ensures { Told (λ said. PairOutcome p k g.now r.old t.old said r.new t.new) result }
 {
     match pade::pair(p, k, g, r, t) {
@@ -272,8 +267,7 @@ pub extern "C" fn relations_pair(p: u32, k: u32, g: &[u32], r: &mut [u32], t: &m
     }
 }
 
-#[unsafe(no_mangle)]
-pub extern "C" fn relations_row(n: u32, s: u32, i: u32, basis: &[u32], answer: &mut [u32]) -> u32
+pub fn relations_row(n: u32, s: u32, i: u32, basis: &[u32], answer: &mut [u32]) -> u32
     ensures { Given row_answer_length (RowSaid basis.now n s i) Unit answer.old result answer.new }
 {
     if answer.len() != ROW_ANSWER_LENGTH {
@@ -290,13 +284,7 @@ pub extern "C" fn relations_row(n: u32, s: u32, i: u32, basis: &[u32], answer: &
     0
 }
 
-#[unsafe(no_mangle)]
-pub extern "C" fn relations_read(
-    file: &[u8],
-    d: &mut [u32],
-    series: &mut [u32],
-    answer: &mut [u32],
-) -> u32
+pub fn relations_read(file: &[u8], d: &mut [u32], series: &mut [u32], answer: &mut [u32]) -> u32
     ensures { Given job_answer_length (λ said. ReadOutcome file.now d.old series.old said d.new series.new) ((d.new ≡ d.old) × (series.new ≡ series.old)) answer.old result answer.new }
 {
     if answer.len() != JOB_ANSWER_LENGTH {
@@ -305,8 +293,7 @@ pub extern "C" fn relations_read(
     tell_job(jobfile::read_job(file, d, series), answer)
 }
 
-#[unsafe(no_mangle)]
-pub extern "C" fn relations_write(
+pub fn relations_write(
     p: u32,
     n: u32,
     s: u32,
@@ -323,8 +310,7 @@ pub extern "C" fn relations_write(
     tell_write(jobfile::write_job(p, n, s, d, series, file), answer)
 }
 
-#[unsafe(no_mangle)]
-pub extern "C" fn relations_text(
+pub fn relations_text(
     p: u32,
     n: u32,
     s: u32,
@@ -342,8 +328,7 @@ pub extern "C" fn relations_text(
     tell_text(report::write_basis(p, n, s, d, basis, least, text), answer)
 }
 
-#[unsafe(no_mangle)]
-pub extern "C" fn relations_refused(number: u32, text: &mut [u8], answer: &mut [u32]) -> u32
+pub fn relations_refused(number: u32, text: &mut [u8], answer: &mut [u32]) -> u32
     ensures { Given count_answer_length (RefusalTextOutcome number text.old text.new) (text.new ≡ text.old) answer.old result answer.new }
 {
     if answer.len() != COUNT_ANSWER_LENGTH {
@@ -352,8 +337,7 @@ pub extern "C" fn relations_refused(number: u32, text: &mut [u8], answer: &mut [
     tell_text(report::write_refusal(number, text), answer)
 }
 
-#[unsafe(no_mangle)]
-pub extern "C" fn relations_print(file: &[u8], text: &mut [u8], answer: &mut [u32]) -> u32
+pub fn relations_print(file: &[u8], text: &mut [u8], answer: &mut [u32]) -> u32
     ensures { Given count_answer_length (PrintOutcome file.now text.old text.new) (text.new ≡ text.old) answer.old result answer.new }
 {
     if answer.len() != COUNT_ANSWER_LENGTH {
@@ -362,8 +346,7 @@ pub extern "C" fn relations_print(file: &[u8], text: &mut [u8], answer: &mut [u3
     tell_text(jobreport::print_job(file, text), answer)
 }
 
-#[unsafe(no_mangle)]
-pub extern "C" fn relations_parse(
+pub fn relations_parse(
     text: &[u8],
     d: &mut [u32; TYPE_WORDS],
     series: &mut [u32; SERIES_WORDS],
@@ -378,8 +361,7 @@ pub extern "C" fn relations_parse(
 }
 
 // The line, counted from 1, of what is wrong with a text job; 0 where nothing is.
-#[unsafe(no_mangle)]
-pub extern "C" fn relations_parse_line(text: &[u8]) -> usize
+pub fn relations_parse_line(text: &[u8]) -> usize
     ensures { result ≡ fault_line (job_of_text text.now) }
 {
     let mut d = [0u32; TYPE_WORDS];
