@@ -1,4 +1,6 @@
 // The job file of a text job: parse the text and lay its job out, or say what is wrong with the text.
+#![tactic(auto)]
+
 ghost use Rattle.std.specs.Prelude.{◌≡◌, length};
 ghost use Rattle.jobfile.specs.Job.{Admitted, job_of};
 ghost use Rattle.jobfile.specs.Layout.{layout};
@@ -13,7 +15,7 @@ use jobtext::Parsed;
 pub const MESSAGE_BYTES: usize = 128;
 
 // How many bytes the file takes, or the message.
-#[derive(Drop)]
+#[derive(Clone, Copy)]
 pub enum Made {
     File(usize),
     Message(usize),
