@@ -1,4 +1,4 @@
-//! Links the engine's static library, which `rt staticlib embed` writes to `target/staticlib` of the repository.
+//! Links the engine's static library, which `tools/archive` writes to `target/staticlib` of the repository.
 //! `RELATIONS_LIB` names another folder.
 use std::env;
 use std::path::PathBuf;
@@ -14,7 +14,7 @@ fn main() {
     };
     let archive = folder.join("libembed.a");
     if !archive.is_file() {
-        panic!("{} is missing: run `rt staticlib embed`, or set RELATIONS_LIB", archive.display());
+        panic!("{} is missing: run `tools/archive`, or set RELATIONS_LIB", archive.display());
     }
     if env::var("CARGO_CFG_TARGET_ARCH").as_deref() != Ok("x86_64") {
         panic!("the engine's static library links only into x86-64 programs: build with --target x86_64-unknown-linux-gnu");

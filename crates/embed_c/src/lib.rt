@@ -1,5 +1,6 @@
 // The exports for C: each is the function of crate embed of its name, with the same clauses.
 #![tactic(auto)]
+
 ghost use Rattle.std.specs.Prelude.{◌≡◌};
 ghost use Rattle.field.specs.Calls.{MakeOutcome, AddOutcome, MultiplyOutcome, InvertOutcome};
 ghost use Rattle.engine.specs.Basis.{BasisOutcome};
