@@ -87,6 +87,7 @@ fn put_numbers(words: &[u32], out: &mut [u8], at: usize) -> usize
 }
 
 // How many words an entry has up to its last that is not zero.
+#[tactic(auto, using(crate::proofs::Entry::trim_stop, crate::proofs::Entry::trim_turn))]
 fn used(entry: &[u32]) -> usize
     ensures { result ≡ length (trim entry.now) }
 {
