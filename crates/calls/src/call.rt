@@ -1,7 +1,7 @@
 // The calls by their names.
 use request::is_named;
 
-#[derive(Drop)]
+#[derive(Clone, Copy)]
 pub enum Call {
     Make,
     Add,

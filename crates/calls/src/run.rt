@@ -3,33 +3,34 @@ use crate::lend::{FILE, JOB_TEXT, TEXT, WORDS, copy, front_mut, lend, lend_bytes
 use crate::say;
 use field::{Field, FieldAnswer};
 use request::argument;
+use std::io;
 
-pub fn make(v: &[u32]) {
+pub fn make(out: &impl Print, v: &[u32]) -> io::Result<()> {
     match Field::make(number(v, 0)) {
-        FieldAnswer::Is(f) => say::one(0, f.modulus),
-        FieldAnswer::Refused(k) => say::one(k, 0),
+        FieldAnswer::Is(f) => say::one(out, 0, f.modulus),
+        FieldAnswer::Refused(k) => say::one(out, k, 0),
     }
 }
 
-pub fn add(v: &[u32]) {
+pub fn add(out: &impl Print, v: &[u32]) -> io::Result<()> {
     let mut answer = [9u32; 1];
     let told = front_mut(&mut answer, 1);
     let status = embed::relations_add(number(v, 0), number(v, 1), number(v, 2), told);
-    say::line(status, told);
+    say::line(out, status, told)
 }
 
-pub fn multiply(v: &[u32]) {
+pub fn multiply(out: &impl Print, v: &[u32]) -> io::Result<()> {
     let mut answer = [9u32; 1];
     let told = front_mut(&mut answer, 1);
     let status = embed::relations_multiply(number(v, 0), number(v, 1), number(v, 2), told);
-    say::line(status, told);
+    say::line(out, status, told)
 }
 
-pub fn invert(v: &[u32]) {
+pub fn invert(out: &impl Print, v: &[u32]) -> io::Result<()> {
     let mut answer = [9u32; 1];
     let told = front_mut(&mut answer, 1);
     let status = embed::relations_invert(number(v, 0), number(v, 1), told);
-    say::line(status, told);
+    say::line(out, status, told)
 }
 
 fn call_basis(v: &[u32], d: &[u32], series: &[u32], basis: &mut [u32], told: &mut [u32]) -> u32 {
@@ -44,13 +45,13 @@ fn call_basis(v: &[u32], d: &[u32], series: &[u32], basis: &mut [u32], told: &mu
     )
 }
 
-pub fn basis(v: &[u32], e: &[usize], short: bool) {
+pub fn basis(out: &impl Print, v: &[u32], e: &[usize], short: bool) -> io::Result<()> {
     let mut buffer = [9u32; WORDS];
     let mut answer = [9u32; 2];
     let basis = lend(argument(v, e, 5), &mut buffer);
     let told = front_mut(&mut answer, 2);
     let status = call_basis(v, argument(v, e, 3), argument(v, e, 4), basis, told);
-    say::with_words(status, told, basis, short);
+    say::with_words(out, status, told, basis, short)
 }
 
 fn call_approximant(
@@ -63,13 +64,13 @@ fn call_approximant(
     embed::relations_approximant(number(v, 0), number(v, 1), d, series, basis, told)
 }
 
-pub fn approximant(v: &[u32], e: &[usize], short: bool) {
+pub fn approximant(out: &impl Print, v: &[u32], e: &[usize], short: bool) -> io::Result<()> {
     let mut buffer = [9u32; WORDS];
     let mut answer = [9u32; 2];
     let basis = lend(argument(v, e, 4), &mut buffer);
     let told = front_mut(&mut answer, 2);
     let status = call_approximant(v, argument(v, e, 2), argument(v, e, 3), basis, told);
-    say::with_words(status, told, basis, short);
+    say::with_words(out, status, told, basis, short)
 }
 
 fn call_bases(v: &[u32], d: &[u32], series: &[u32], bases: &mut [u32], answers: &mut [u32]) -> u32 {
@@ -85,75 +86,89 @@ fn call_bases(v: &[u32], d: &[u32], series: &[u32], bases: &mut [u32], answers: 
     )
 }
 
-pub fn bases(v: &[u32], e: &[usize], short: bool) {
+pub fn bases(out: &impl Print, v: &[u32], e: &[usize], short: bool) -> io::Result<()> {
     let mut first = [9u32; WORDS];
     let mut second = [9u32; WORDS];
     let bases = lend(argument(v, e, 6), &mut first);
     let answers = lend(argument(v, e, 7), &mut second);
     let status = call_bases(v, argument(v, e, 4), argument(v, e, 5), bases, answers);
-    say::status(status);
-    say::two_buffers(bases, answers, short);
+    say::status(out, status)?;
+    say::two_buffers(out, bases, answers, short)
 }
 
 fn call_pair(v: &[u32], g: &[u32], r: &mut [u32], t: &mut [u32]) -> u32 {
     embed::relations_pair(number(v, 0), number(v, 1), g, r, t)
 }
 
-pub fn pair(v: &[u32], e: &[usize], short: bool) {
+pub fn pair(out: &impl Print, v: &[u32], e: &[usize], short: bool) -> io::Result<()> {
     let mut first = [9u32; WORDS];
     let mut second = [9u32; WORDS];
     let r = lend(argument(v, e, 3), &mut first);
     let t = lend(argument(v, e, 4), &mut second);
     let status = call_pair(v, argument(v, e, 2), r, t);
-    say::status(status);
-    say::two_buffers(r, t, short);
+    say::status(out, status)?;
+    say::two_buffers(out, r, t, short)
 }
 
 fn call_row(v: &[u32], basis: &[u32], told: &mut [u32]) -> u32 {
     embed::relations_row(number(v, 0), number(v, 1), number(v, 2), basis, told)
 }
 
-fn say_row(v: &[u32], basis: &[u32], status: u32, told: &[u32], short: bool) {
+fn say_row(
+    out: &impl Print,
+    v: &[u32],
+    basis: &[u32],
+    status: u32,
+    told: &[u32],
+    short: bool,
+) -> io::Result<()> {
     let row = engine::row_view(basis, number(v, 0), number(v, 1), number(v, 2));
-    say::with_words(status, told, row, short);
+    say::with_words(out, status, told, row, short)
 }
 
-pub fn row(v: &[u32], e: &[usize], short: bool) {
+pub fn row(out: &impl Print, v: &[u32], e: &[usize], short: bool) -> io::Result<()> {
     let mut answer = [9u32; 2];
     let told = front_mut(&mut answer, 2);
     let status = call_row(v, argument(v, e, 3), told);
-    say_row(v, argument(v, e, 3), status, told, short);
+    say_row(out, v, argument(v, e, 3), status, told, short)
 }
 
-fn say_checks(block: &[u8]) {
+fn say_checks(out: &impl Print, block: &[u8]) -> io::Result<()> {
     if block.len() == 512 {
         let checks = block::checks_of(block);
-        say::two(checks.a, checks.b);
+        say::two(out, checks.a, checks.b)?;
     }
+    Ok(())
 }
 
-pub fn block_checks(v: &[u32], e: &[usize]) {
+pub fn block_checks(out: &impl Print, v: &[u32], e: &[usize]) -> io::Result<()> {
     let mut bytes = [9u8; 512];
     let block = lend_bytes(argument(v, e, 0), &mut bytes);
-    say_checks(block);
+    say_checks(out, block)
 }
 
-fn read_lent(file: &[u8], d: &mut [u32], series: &mut [u32], short: bool) {
+fn read_lent(
+    out: &impl Print,
+    file: &[u8],
+    d: &mut [u32],
+    series: &mut [u32],
+    short: bool,
+) -> io::Result<()> {
     let mut answer = [9u32; 3];
     let told = front_mut(&mut answer, 3);
     let status = embed::relations_read(file, d, series, told);
-    say::answer(status, told);
-    say::two_buffers(d, series, short);
+    say::answer(out, status, told)?;
+    say::two_buffers(out, d, series, short)
 }
 
-pub fn read(v: &[u32], e: &[usize], short: bool) {
+pub fn read(out: &impl Print, v: &[u32], e: &[usize], short: bool) -> io::Result<()> {
     let mut bytes = [9u8; FILE];
     let mut first = [9u32; WORDS];
     let mut second = [9u32; WORDS];
     let file = lend_bytes(argument(v, e, 0), &mut bytes);
     let d = lend(argument(v, e, 1), &mut first);
     let series = lend(argument(v, e, 2), &mut second);
-    read_lent(file, d, series, short);
+    read_lent(out, file, d, series, short)
 }
 
 fn call_write(v: &[u32], d: &[u32], series: &[u32], file: &mut [u8], told: &mut [u32]) -> u32 {
@@ -168,13 +183,13 @@ fn call_write(v: &[u32], d: &[u32], series: &[u32], file: &mut [u8], told: &mut 
     )
 }
 
-pub fn write(v: &[u32], e: &[usize], short: bool) {
+pub fn write(out: &impl Print, v: &[u32], e: &[usize], short: bool) -> io::Result<()> {
     let mut bytes = [9u8; FILE];
     let mut answer = [9u32; 1];
     let file = lend_bytes(argument(v, e, 5), &mut bytes);
     let told = front_mut(&mut answer, 1);
     let status = call_write(v, argument(v, e, 3), argument(v, e, 4), file, told);
-    say::with_bytes(status, told, file, short);
+    say::with_bytes(out, status, told, file, short)
 }
 
 fn call_text(v: &[u32], d: &[u32], basis: &[u32], text: &mut [u8], told: &mut [u32]) -> u32 {
@@ -190,25 +205,25 @@ fn call_text(v: &[u32], d: &[u32], basis: &[u32], text: &mut [u8], told: &mut [u
     )
 }
 
-pub fn text(v: &[u32], e: &[usize], short: bool) {
+pub fn text(out: &impl Print, v: &[u32], e: &[usize], short: bool) -> io::Result<()> {
     let mut bytes = [9u8; TEXT];
     let mut answer = [9u32; 1];
     let text = lend_bytes(argument(v, e, 6), &mut bytes);
     let told = front_mut(&mut answer, 1);
     let status = call_text(v, argument(v, e, 4), argument(v, e, 5), text, told);
-    say::with_bytes(status, told, text, short);
+    say::with_bytes(out, status, told, text, short)
 }
 
-pub fn refused(v: &[u32], e: &[usize], short: bool) {
+pub fn refused(out: &impl Print, v: &[u32], e: &[usize], short: bool) -> io::Result<()> {
     let mut bytes = [9u8; TEXT];
     let mut answer = [9u32; 1];
     let text = lend_bytes(argument(v, e, 1), &mut bytes);
     let told = front_mut(&mut answer, 1);
     let status = embed::relations_refused(number(v, 0), text, told);
-    say::with_bytes(status, told, text, short);
+    say::with_bytes(out, status, told, text, short)
 }
 
-pub fn print(v: &[u32], e: &[usize], short: bool) {
+pub fn print(out: &impl Print, v: &[u32], e: &[usize], short: bool) -> io::Result<()> {
     let mut first = [9u8; FILE];
     let mut second = [9u8; TEXT];
     let mut answer = [9u32; 1];
@@ -216,29 +231,35 @@ pub fn print(v: &[u32], e: &[usize], short: bool) {
     let text = lend_bytes(argument(v, e, 1), &mut second);
     let told = front_mut(&mut answer, 1);
     let status = embed::relations_print(file, text, told);
-    say::with_bytes(status, told, text, short);
+    say::with_bytes(out, status, told, text, short)
 }
 
-fn parse_lent(text: &[u8], d: &mut [u32; 8], series: &mut [u32; 2040], short: bool) {
+fn parse_lent(
+    out: &impl Print,
+    text: &[u8],
+    d: &mut [u32; 8],
+    series: &mut [u32; 2040],
+    short: bool,
+) -> io::Result<()> {
     let mut answer = [9u32; 3];
     let told = front_mut(&mut answer, 3);
     let status = embed::relations_parse(text, d, series, told);
-    say::answer(status, told);
-    say::two_buffers(d, series, short);
+    say::answer(out, status, told)?;
+    say::two_buffers(out, d, series, short)
 }
 
-pub fn parse(v: &[u32], e: &[usize], short: bool) {
+pub fn parse(out: &impl Print, v: &[u32], e: &[usize], short: bool) -> io::Result<()> {
     let mut bytes = [9u8; JOB_TEXT];
     let mut d = [9u32; 8];
     let mut series = [9u32; 2040];
     let text = lend_bytes(argument(v, e, 0), &mut bytes);
     copy(argument(v, e, 1), &mut d);
     copy(argument(v, e, 2), &mut series);
-    parse_lent(text, &mut d, &mut series, short);
+    parse_lent(out, text, &mut d, &mut series, short)
 }
 
-pub fn parse_line(v: &[u32], e: &[usize]) {
+pub fn parse_line(out: &impl Print, v: &[u32], e: &[usize]) -> io::Result<()> {
     let mut bytes = [9u8; JOB_TEXT];
     let text = lend_bytes(argument(v, e, 0), &mut bytes);
-    say::length(embed::relations_parse_line(text));
+    say::length(out, embed::relations_parse_line(text))
 }

@@ -1,9 +1,28 @@
-// What the programs share: the text of a job file that is read from a descriptor goes to standard output.
+// What the programs share: a buffer is filled from a reader, and the text of a job file goes from a reader to a writer.
+#![tactic(auto)]
+
+ghost use Rattle.std.specs.Prelude.{◌≤◌, length};
 ghost use Rattle.console.specs.PrintedIn.{PrintedIn};
 
 use jobfile::FILE_BYTES;
-use libc::STDOUT_FILENO;
 use report::{TEXT, TextAnswer};
+use std::io;
+use std::io::{Read, Write};
+
+// Reads until the buffer is full or nothing more comes, and answers how many bytes have come. A read that fails counts as the end.
+pub fn read_full<R: Read>(input: &mut R, buffer: &mut [u8]) -> usize
+    ensures { result ≤ length buffer.new }
+{
+    let mut done = 0;
+    while done < buffer.len() {
+        match input.read(&mut buffer[done..]) {
+            Ok(0) => return done,
+            Ok(n) => done += n,
+            Err(_) => return done,
+        }
+    }
+    done
+}
 
 // How many bytes of the lent buffer the text takes. Every text fits, so the second case never comes.
 fn text_length(file: &[u8], text: &mut [u8; TEXT]) -> usize
@@ -16,10 +35,10 @@ fn text_length(file: &[u8], text: &mut [u8; TEXT]) -> usize
 }
 
 // One byte more than the largest file has is read, so that a longer input is refused by its length.
-pub fn print_from(fd: i32) {
+pub fn print_from<R: Read, W: Write>(input: &mut R, output: &mut W) -> io::Result<()> {
     let mut file = [0u8; FILE_BYTES + 1];
-    let n = io::read_full(fd, &mut file);
+    let n = read_full(input, &mut file);
     let mut text = [0u8; TEXT];
     let k = text_length(&file[..n], &mut text);
-    io::write_all(STDOUT_FILENO, &text[..k]);
+    output.write_all(&text[..k])
 }

@@ -1,6 +1,8 @@
 // Reads a job file from standard input and prints its basis, or `refused` and a number.
-use libc::STDIN_FILENO;
+#![tactic(auto)]
 
-fn main() {
-    console::print_from(STDIN_FILENO);
+use std::io;
+
+fn main(rt: HostRuntime) -> io::Result<()> {
+    console::print_from(&mut rt.stdin(), &mut rt.stdout())
 }
