@@ -1,26 +1,43 @@
 // Prints, for each job file that its arguments name, the name and then what `relations` prints for the file.
 #![tactic(auto)]
 
+ghost use Rattle.std.specs.Prelude.{◌≤◌, length};
+
 use std::fs::File;
-use std::rt::Files;
+use std::io::{Cursor, Write};
 use std::{env, io};
 
-// What the system says of an error, without the number behind it.
-fn reason(error: &str) -> &str {
-    match error.split_once(" (os error ") {
-        Some((said, _)) => said,
-        None => error,
+// The system's words for an error and its number behind them take less.
+const WORDS: usize = 256;
+
+// Where the words end: before the number that stands behind them in brackets, else at the first byte that is not written.
+fn words_end(text: &[u8]) -> usize
+    ensures { result ≤ length text.now }
+{
+    let mut end = 0;
+    for (i, byte) in text.iter().enumerate() {
+        if *byte == 0 || *byte == b'(' {
+            return end;
+        }
+        if *byte != b' ' {
+            end = i + 1;
+        }
     }
+    end
 }
 
-fn print_named<R: Files + Print + Eprint + Alloc>(rt: &R, name: &str) -> io::Result<()> {
+fn print_named(rt: &HostRuntime, name: &str) -> io::Result<()> {
     println!(rt; "{name}")?;
     match File::open(rt, name) {
         Ok(mut file) => console::print_from(&mut file, &mut io::writer(rt)),
         Err(e) => {
-            let error = format!(in rt.alloc(); "{e}")?;
-            let why = reason(error.as_str());
-            eprintln!(rt; "{name}: {why}")
+            let mut words = Cursor::new([0u8; WORDS]);
+            write!(words, "{e}")?;
+            let text = words.into_inner();
+            let end = words_end(&text);
+            eprint!(rt; "{name}: ")?;
+            rt.stderr().write_all(&text[..end])?;
+            eprintln!(rt; "")
         }
     }
 }
