@@ -5,7 +5,7 @@ use mathlib.Core.List.{List}
 use Prim.Native.Nat.{ℕ, ◌+◌, ◌*◌}
 use Rattle.field.specs.Answer.{Answer}
 use Rattle.field.specs.Calls.{MakeOutcome, AddOutcome, MultiplyOutcome, InvertOutcome}
-use Rattle.field.proofs.Refusal.{same_outcome}
+use Rattle.field.proofs.Outcome.{same_outcome}
 use Rattle.engine.specs.Basis.{BasisOutcome}
 use Rattle.engine.specs.Approximant.{ApproximantOutcome}
 use Rattle.sets.specs.Bases.{BasesOutcome}

@@ -6,7 +6,7 @@ use Prim.Native.Nat.{ℕ, ◌*◌}
 use native.Mathlib.Omega.{arith}
 use lib.ListN.{length}
 use Rattle.field.specs.Refusal.{Order, NoTest, Outcome, ◌when◌}
-use Rattle.field.proofs.Refusal.{none_both, none_left, none_right, outcome_after}
+use Rattle.field.proofs.Outcome.{none_both, none_left, none_right, outcome_after}
 use Rattle.field.proofs.Truth.{same_of, exact, neither, no_either}
 use Rattle.words.specs.Some.{Some}
 use Rattle.sizes.specs.Entry.{EntryOutside}

@@ -13,7 +13,7 @@ use lib.IntN.{pos}
 use lib.Signed.{◌≤ℤ◌}
 use Rattle.field.specs.Prime.{Prime}
 use Rattle.field.specs.Answer.{result}
-use Rattle.field.proofs.Refusal.{admitted}
+use Rattle.field.proofs.Outcome.{admitted}
 use Rattle.relation.specs.Vector.{Vect}
 use Rattle.relation.specs.Degree.{Degree}
 use Rattle.relation.specs.Relation.{Relation}

@@ -6,7 +6,7 @@ use Prim.Native.Nat.{ℕ, ◌<◌}
 use lib.ListN.{length}
 use Rattle.field.specs.Refusal.{Order, NoTest, Outcome}
 use Rattle.field.specs.Answer.{Answer, refusal}
-use Rattle.field.proofs.Refusal.{keep, same_outcome}
+use Rattle.field.proofs.Outcome.{keep, same_outcome}
 use Rattle.solve.proofs.Found.{found_unique}
 use Rattle.engine.specs.declared.BasisAnswer.{BasisAnswer}
 use Rattle.engine.specs.Answers.{basis_says}

@@ -8,6 +8,7 @@ pub mod Coprime
 pub mod Prime
 pub mod Trial
 pub mod ModulusTest
-pub mod Refusal
+pub mod Outcome
+pub mod Numbered
 pub mod Tests
 pub mod Unique

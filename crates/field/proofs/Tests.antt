@@ -1,60 +1,58 @@
 -- What a call's tests found: no test holds where they passed, and else the number is the first one's; how tests follow each other.
-use Rattle.std.proofs.Common.{◌≡◌, ℕ, ◌<◌, ◌≤◌, [], ◌∷◌, ◌++◌, refl, inl, inr, arith}
-use Rattle.field.specs.declared.Tested.{Tested}
+use Rattle.std.proofs.Common.{ℕ, ◌<◌, ◌≤◌, [], ◌∷◌, ◌++◌, Result, Ok, Err, IsOk, refl, inl, inr, arith}
+use Rattle.field.specs.declared.Refusal.{Refusal}
+use Rattle.field.specs.Number.{number_of}
 use Rattle.field.specs.Refusal.{Line, Order, ◌when◌, NoTest, First, Outcome}
 use Rattle.field.specs.Calls.{Tests, operand_order}
 use Rattle.field.specs.Modulus.{Modulus}
-use Rattle.field.proofs.Refusal.{first_left, outcome_after}
+use Rattle.field.proofs.Outcome.{first_left, outcome_after}
 use Rattle.field.proofs.ModulusTest.{modulus_decided}
 
-pub passed : (o : Order) (t : Tested) → Tests o t → t ≡ Tested.Passed → NoTest o
+pub passed : (o : Order) (u : Unit {0}) → Tests o (Ok u) → NoTest o
 unfolding Outcome
-passed o t (inl a) e = a.0
-passed o t (inr a) e = absurd (let h : t ≡ Tested.Refused a.0 = a.2 in let z : ◌≡◌ {A = ℕ} 0 1 = cc in omega arith)
+passed o u (inl a) = a.0
+passed o u (inr a) = absurd a.2
 
-pub stopped : (o : Order) (t : Tested) (k : ℕ) → Tests o t → t ≡ Tested.Refused k → First o k
+pub stopped : (o : Order) (e : Refusal) → Tests o (Err e) → First o (number_of e)
 unfolding Outcome
-stopped o t k (inl a) e = absurd (let h : t ≡ Tested.Passed = a.1 in let z : ◌≡◌ {A = ℕ} 0 1 = cc in omega arith)
-stopped o t k (inr a) e =
-    let h : t ≡ Tested.Refused a.0 = a.2 in
-    let i : a.0 ≡ k = cc in
-    rw i at a.1
+stopped o e (inl a) = absurd (let h : IsOk {T = Unit {0}} (Err e) = a.1 in cc)
+stopped o e (inr a) = rw a.2 a.1
 
 -- tests line by line: the first line's test holds
-pub here : (l : Line) (o : Order) → l.test → Tests (l ∷ o) (Tested.Refused l.number)
+pub here : (o : Order) (T : Type 0) (e : Refusal) → T → Tests ((number_of e when T) ∷ o) (Err e)
 unfolding Outcome First
-here l o y = inr (l.number, inl (y, refl), refl)
+here o T e y = inr (number_of e, inl (y, refl), refl)
 
 -- it does not
-pub later : (l : Line) (o : Order) (t : Tested) → ¬ l.test → Tests o t → Tests (l ∷ o) t
+pub later : (l : Line) (o : Order) (t : Result Unit Refusal) → ¬ l.test → Tests o t → Tests (l ∷ o) t
 unfolding Outcome First NoTest
 later l o t n (inl a) = inl ((n, a.0), a.1)
 later l o t n (inr b) = inr (b.0, inr (n, b.1), b.2)
 
-pub no_more : Tests [] Tested.Passed
+pub no_more : (u : Unit {0}) → Tests [] (Ok u)
 unfolding Outcome NoTest
-no_more = inl (tt, refl)
+no_more u = inl (tt, refl)
 
 -- one run of tests after another
-module _ (o o' : Order) (t : Tested) (h : Tests o t) where
+module _ (o o' : Order) where
   -- o passed, and o' is tested
-  pub and_then : (t' : Tested) → t ≡ Tested.Passed → Tests o' t' → Tests (o ++ o') t'
-  and_then t' e = outcome_after o o' _ _ (passed o t h e)
+  pub and_then : (u : Unit {0}) (t : Result Unit Refusal) → Tests o (Ok u) → Tests o' t → Tests (o ++ o') t
+  and_then u t h = outcome_after o o' _ _ (passed o u h)
 
   -- o is refused
-  pub and_stop : (k : ℕ) → t ≡ Tested.Refused k → Tests (o ++ o') (Tested.Refused k)
+  pub and_stop : (e : Refusal) → Tests o (Err e) → Tests (o ++ o') (Err e)
   unfolding Outcome
-  and_stop k e = inr (k, first_left o o' k (stopped o t k h e), refl)
+  and_stop e h = inr (number_of e, first_left o o' _ (stopped o e h), refl)
 
 -- what a call gives after its tests
-module _ (o : Order) (t : Tested) (R : ℕ → Type 0) (A : Type 0) (h : Tests o t) where
-  pub answers : t ≡ Tested.Passed → A → Outcome o R A
+module _ (o : Order) (R : ℕ → Type 0) (A : Type 0) where
+  pub answers : (u : Unit {0}) → Tests o (Ok u) → A → Outcome o R A
   unfolding Outcome
-  answers e a = inl (passed o t h e, a)
+  answers u h a = inl (passed o u h, a)
 
-  pub refuses : (k : ℕ) → t ≡ Tested.Refused k → R k → Outcome o R A
+  pub refuses : (e : Refusal) → Tests o (Err e) → R (number_of e) → Outcome o R A
   unfolding Outcome
-  refuses k e r = inr (k, stopped o t k h e, r)
+  refuses e h r = inr (number_of e, stopped o e h, r)
 
 -- a call that begins with the test of the modulus
 pub modulus_passed : (p : ℕ) (o : Order) → NoTest ((1 when (¬ (Modulus p))) ∷ o) → Modulus p

@@ -1,26 +1,25 @@
 -- The field's calls: what each case of their answers says, the order of their refusals, and their outcomes.
-use Rattle.std.specs.Prelude.{◌≡◌, ℕ, ◌+◌, ◌*◌, ◌%◌, ◌≤◌, ◌⊎◌, [], ◌∷◌}
+use Rattle.std.specs.Prelude.{◌≡◌, ℕ, ◌+◌, ◌*◌, ◌%◌, ◌≤◌, ◌⊎◌, [], ◌∷◌, Option, Some, None, Result, Ok, Err, IsOk}
 use Rattle.field.specs.Modulus.{Modulus}
 use Rattle.field.specs.Inverse.{Inverse}
 use Rattle.field.specs.Refusal.{Order, ◌when◌, Outcome}
 use Rattle.field.specs.Answer.{Answer, result, refusal, no_inverse}
-use Rattle.field.specs.declared.Tested.{Tested}
-use Rattle.field.specs.declared.FieldAnswer.{FieldAnswer}
-use Rattle.field.specs.declared.ResidueAnswer.{ResidueAnswer}
-use Rattle.field.specs.declared.InverseAnswer.{InverseAnswer}
+use Rattle.field.specs.Number.{number_of}
+use Rattle.field.specs.declared.Field.{Field}
+use Rattle.field.specs.declared.Refusal.{Refusal}
 
-abbrev pub field_says : FieldAnswer → Answer
-field_says (FieldAnswer.Is f) = result (f.modulus ∷ [])
-field_says (FieldAnswer.Refused k) = refusal k
+abbrev pub field_says : Result Field Refusal → Answer
+field_says (Ok f) = result (f.modulus ∷ [])
+field_says (Err e) = refusal (number_of e)
 
-abbrev pub residue_says : ResidueAnswer → Answer
-residue_says (ResidueAnswer.Is r) = result (r ∷ [])
-residue_says (ResidueAnswer.Refused k) = refusal k
+abbrev pub residue_says : Result ℕ Refusal → Answer
+residue_says (Ok r) = result (r ∷ [])
+residue_says (Err e) = refusal (number_of e)
 
-abbrev pub inverse_says : InverseAnswer → Answer
-inverse_says (InverseAnswer.Is r) = result (r ∷ [])
-inverse_says (InverseAnswer.Refused k) = refusal k
-inverse_says InverseAnswer.OfZero = no_inverse
+abbrev pub inverse_says : Result (Option ℕ) Refusal → Answer
+inverse_says (Ok (Some r)) = result (r ∷ [])
+inverse_says (Ok None) = no_inverse
+inverse_says (Err e) = refusal (number_of e)
 
 -- the orders: the modulus (1), then each operand (6)
 abbrev pub modulus_order : ℕ → Order
@@ -32,9 +31,14 @@ operand_order p a = (1 when (¬ (Modulus p))) ∷ (6 when (p ≤ a)) ∷ []
 abbrev pub operands_order : ℕ → ℕ → ℕ → Order
 operands_order p a b = (1 when (¬ (Modulus p))) ∷ (6 when (p ≤ a)) ∷ (6 when (p ≤ b)) ∷ []
 
+-- an answer is the refusal of this number
+abbrev pub IsRefused : {A : Type 0} → Result A Refusal → ℕ → Type 0
+IsRefused (Ok x) k = ⊥
+IsRefused (Err e) k = number_of e ≡ k
+
 -- the tests of a call alone
-abbrev pub Tests : Order → Tested → Type 0
-Tests o t = Outcome o (λ k. t ≡ Tested.Refused k) (t ≡ Tested.Passed)
+abbrev pub Tests : Order → Result Unit Refusal → Type 0
+Tests o t = Outcome o (IsRefused t) (IsOk t)
 
 -- a call without buffers: the refusal's number, or the answer
 abbrev pub Says : Order → Answer → Type 0 → Type 0

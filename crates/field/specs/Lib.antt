@@ -8,5 +8,6 @@ pub mod Inverse
 pub mod Gathered
 pub mod Fixed
 pub mod Refusal
+pub mod Number
 pub mod Answer
 pub mod Calls

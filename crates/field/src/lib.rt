@@ -7,13 +7,15 @@ ghost use Rattle.field.specs.Modulus.{Modulus, largest};
 ghost use Rattle.field.specs.Inverse.{Inverse};
 ghost use Rattle.field.specs.Gathered.{gathered, Room, Gathers};
 ghost use Rattle.field.specs.Fixed.{Fixed};
-ghost use Rattle.field.specs.Calls.{Tests, operand_order, operands_order, field_says, residue_says, inverse_says, MakeOutcome, ResidueOutcome, AddOutcome, MultiplyOutcome, InvertOutcome};
+ghost use Rattle.field.specs.Number.{number_of};
 ghost use Rattle.field.specs.Coprime.{Coprime};
 ghost use Rattle.field.specs.Bezout.{Bezout};
 
+// Residues modulo a positive number. Only the inverse needs that it is prime.
 #[derive(Clone, Copy)]
 pub struct Field {
     pub modulus: u32,
+    pub ghost positive: { 0 < modulus },
 }
 
 // A sum of products whose first factors are cut in two: low has what their lower 16 bits give, high what their upper 16 bits give.
@@ -37,30 +39,31 @@ pub struct FixedFactor {
     pub quotient: u32,
 }
 
-// What the tests of a call find.
-#[derive(Clone, Copy)]
-pub enum Tested {
-    Passed,
-    Refused(u32),
+// The refusals of document 01. Each is its number there.
+#[derive(Clone, Copy, Debug, PartialEq, Eq)]
+pub enum Refusal {
+    Modulus = 1,
+    Count = 2,
+    Order = 3,
+    Length = 4,
+    Entry = 5,
+    Coefficient = 6,
+    Numerator = 7,
+    FileLength = 8,
+    BlockNumber = 9,
+    Check = 10,
+    BlockCount = 11,
+    SpareWord = 12,
+    NoFraction = 13,
+    Sets = 14,
 }
 
-#[derive(Clone, Copy)]
-pub enum FieldAnswer {
-    Is(Field),
-    Refused(u32),
-}
-
-#[derive(Clone, Copy)]
-pub enum ResidueAnswer {
-    Is(u32),
-    Refused(u32),
-}
-
-#[derive(Clone, Copy)]
-pub enum InverseAnswer {
-    Is(u32),
-    Refused(u32),
-    OfZero,
+impl Refusal {
+    pub fn number(self) -> u32
+        ensures { result ≡ number_of self }
+    {
+        self as u32
+    }
 }
 
 // The steps from 7 on through the numbers that are no multiples of 2, 3 or 5; after eight, 30 further on, they begin again.
@@ -73,6 +76,7 @@ fn rest_is_prime(n: u32) -> bool
 {
     let mut d = 7;
     let mut i = 0;
+    // Kept as a while loop: it ends by the square of d, and i only turns the wheel of steps.
     while d as u64 * d as u64 <= n as u64 {
         if n % d == 0 {
             return false;
@@ -124,11 +128,11 @@ fn less(r: u32, p: u32) -> u32
     requires { (r < p + p) × (p ≤ largest) }
     ensures { result + p ≡ 2 ^ 32 + r % p }
 {
-    let d = std::num::wrapping_sub_u32(r, p);
+    let d = r.wrapping_sub(p);
     if d > Field::LARGEST {
         return d;
     }
-    std::num::wrapping_sub_u32(d, p)
+    d.wrapping_sub(p)
 }
 
 // a + x modulo p, from a and x - p: where the sum is negative, p is added again.
@@ -136,9 +140,9 @@ fn more(a: u32, d: u32, p: u32) -> u32
     requires { (a < p) × (p ≤ largest) × (2 ^ 32 ≤ d + p) }
     ensures { result ≡ (a + (d + p - 2 ^ 32)) % p }
 {
-    let e = std::num::wrapping_add_u32(a, d);
+    let e = a.wrapping_add(d);
     if e > Field::LARGEST {
-        return std::num::wrapping_add_u32(e, p);
+        return e.wrapping_add(p);
     }
     e
 }
@@ -157,6 +161,8 @@ impl Halves {
 }
 
 impl Field {
+    ghost use Rattle.field.specs.Calls.{Tests, operand_order, operands_order, field_says, residue_says, inverse_says, MakeOutcome, ResidueOutcome, AddOutcome, MultiplyOutcome, InvertOutcome};
+
     pub const LARGEST: u32 = 2147483647;
 
     pub fn admits(p: u32) -> bool
@@ -169,83 +175,71 @@ impl Field {
     }
 
     // The tests of a call with one operand.
-    fn test_operand(p: u32, a: u32) -> Tested
+    fn test_operand(p: u32, a: u32) -> Result<(), Refusal>
         ensures { Tests (operand_order p a) result }
     {
         if !Field::admits(p) {
-            return Tested::Refused(1);
+            return Err(Refusal::Modulus);
         }
         if a >= p {
-            return Tested::Refused(6);
+            return Err(Refusal::Coefficient);
         }
-        Tested::Passed
+        Ok(())
     }
 
     // The tests of a call with two operands.
-    fn test_operands(p: u32, a: u32, b: u32) -> Tested
-        ensures { Tests (operands_order p a b) result }
+    fn test_operands(p: u32, first: u32, second: u32) -> Result<(), Refusal>
+        ensures { Tests (operands_order p first second) result }
     {
-        match Field::test_operand(p, a) {
-            Tested::Passed => {
-                if b >= p {
-                    Tested::Refused(6)
-                } else {
-                    Tested::Passed
-                }
-            }
-            Tested::Refused(k) => Tested::Refused(k),
+        Field::test_operand(p, first)?;
+        if second >= p {
+            return Err(Refusal::Coefficient);
         }
+        Ok(())
     }
 
-    pub fn make(p: u32) -> FieldAnswer
+    pub fn make(p: u32) -> Result<Field, Refusal>
         ensures { MakeOutcome p (field_says result) }
     {
         if Field::admits(p) {
-            FieldAnswer::Is(Field { modulus: p })
+            Ok(Field { modulus: p })
         } else {
-            FieldAnswer::Refused(1)
+            Err(Refusal::Modulus)
         }
     }
 
     // The residue of n, where the operands a and b pass the tests.
-    fn residue_of(p: u32, a: u32, b: u32, n: u64) -> ResidueAnswer
+    fn residue_of(p: u32, a: u32, b: u32, n: u64) -> Result<u32, Refusal>
         ensures { ResidueOutcome p a b n (residue_says result) }
     {
-        match Field::test_operands(p, a, b) {
-            Tested::Passed => ResidueAnswer::Is(Field { modulus: p }.residue(n)),
-            Tested::Refused(k) => ResidueAnswer::Refused(k),
-        }
+        Field::test_operands(p, a, b)?;
+        Ok(Field { modulus: p }.residue(n))
     }
 
-    pub fn add(p: u32, a: u32, b: u32) -> ResidueAnswer
+    pub fn add(p: u32, a: u32, b: u32) -> Result<u32, Refusal>
         ensures { AddOutcome p a b (residue_says result) }
     {
         Field::residue_of(p, a, b, a as u64 + b as u64)
     }
 
-    pub fn multiply(p: u32, a: u32, b: u32) -> ResidueAnswer
+    pub fn multiply(p: u32, a: u32, b: u32) -> Result<u32, Refusal>
         ensures { MultiplyOutcome p a b (residue_says result) }
     {
         Field::residue_of(p, a, b, a as u64 * b as u64)
     }
 
-    pub fn invert(p: u32, a: u32) -> InverseAnswer
+    // Zero has no inverse.
+    pub fn invert(p: u32, a: u32) -> Result<Option<u32>, Refusal>
         ensures { InvertOutcome p a (inverse_says result) }
     {
-        match Field::test_operand(p, a) {
-            Tested::Passed => {
-                if a == 0 {
-                    InverseAnswer::OfZero
-                } else {
-                    InverseAnswer::Is(Field { modulus: p }.inverse(a))
-                }
-            }
-            Tested::Refused(k) => InverseAnswer::Refused(k),
+        Field::test_operand(p, a)?;
+        if a == 0 {
+            return Ok(None);
         }
+        Ok(Some(Field { modulus: p }.inverse(a)))
     }
 
     fn residue(self, n: u64) -> u32
-        requires { 0 < self.modulus }
         ensures { result ≡ n % self.modulus }
     {
         (n % self.modulus as u64) as u32
@@ -253,7 +247,6 @@ impl Field {
 
     // a + b * c: what factors and cleared rows are made of. It fits 64 bits whatever the words are.
     pub fn plus_product(self, a: u32, b: u32, c: u32) -> u32
-        requires { 0 < self.modulus }
         ensures { result ≡ (a + b * c) % self.modulus }
     {
         self.residue(a as u64 + b as u64 * c as u64)
@@ -288,7 +281,7 @@ impl Field {
 
     // The residue of a gathered sum: two remainders, however many products it has.
     pub fn sum_of(self, h: Halves) -> u32
-        requires { (0 < self.modulus) × Room 1 h }
+        requires { Room 1 h }
         ensures { result ≡ gathered h % self.modulus }
     {
         let high = self.residue(h.high);

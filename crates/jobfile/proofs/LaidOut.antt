@@ -7,7 +7,7 @@ use native.Mathlib.Omega.{arith}
 use lib.ListN.{length, take, drop, get_or, length-append}
 use lib.Seq.{take_at, take_all, drop_at}
 use Rattle.field.specs.Refusal.{NoTest}
-use Rattle.field.proofs.Refusal.{none_both}
+use Rattle.field.proofs.Outcome.{none_both}
 use Rattle.field.proofs.Truth.{no_either, exact}
 use Rattle.words.specs.Some.{Some}
 use Rattle.sizes.specs.Entry.{EntryOutside}

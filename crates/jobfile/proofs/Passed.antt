@@ -6,7 +6,7 @@ use native.Mathlib.Omega.{arith}
 use lib.ListN.{length}
 use Rattle.field.specs.Modulus.{Modulus}
 use Rattle.field.specs.Refusal.{NoTest}
-use Rattle.field.proofs.Refusal.{none_left, none_right}
+use Rattle.field.proofs.Outcome.{none_left, none_right}
 use Rattle.field.proofs.Truth.{same_of, neither}
 use Rattle.words.proofs.Within.{below}
 use Rattle.sizes.specs.Orders.{sizes_order}

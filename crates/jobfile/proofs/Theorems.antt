@@ -12,7 +12,7 @@ use lib.ListN.{length, take}
 use lib.Seq.{take_at}
 use Rattle.field.specs.Refusal.{NoTest, Outcome}
 use Rattle.field.specs.Answer.{Answer, result}
-use Rattle.field.proofs.Refusal.{same_outcome, none_both, answer, no_result_refused}
+use Rattle.field.proofs.Outcome.{same_outcome, none_both, answer, no_result_refused}
 use Rattle.sizes.specs.declared.JobSizes.{JobSizes}
 use Rattle.block.specs.File.{blocks_for}
 use Rattle.block.specs.Part.{blocks_in}

@@ -15,7 +15,7 @@ use Rattle.sizes.proofs.Entry.{outside_above}
 use Rattle.sizes.proofs.Passed.{sizes_pass}
 use Rattle.engine.specs.Orders.{buffers_order, basis_order}
 use Rattle.engine.specs.Basis.{BasisAnswered, BasisOutcome}
-use Rattle.field.proofs.Refusal.{answer, none_both, no_result_refused}
+use Rattle.field.proofs.Outcome.{answer, none_both, no_result_refused}
 use Rattle.field.proofs.Truth.{no_either, exact}
 use Rattle.words.specs.Some.{Some}
 use Rattle.jobfile.specs.Job.{Job, Admitted, job_of}

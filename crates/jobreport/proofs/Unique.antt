@@ -4,7 +4,7 @@ use mathlib.Core.Logic.{inl, inr}
 use mathlib.Core.List.{List}
 use Prim.Native.Nat.{ℕ}
 use lib.ListN.{length}
-use Rattle.field.proofs.Refusal.{first_unique, first_or_none}
+use Rattle.field.proofs.Outcome.{first_unique, first_or_none}
 use Rattle.solve.proofs.Found.{found_unique}
 use Rattle.jobfile.specs.Lengths.{type_words, series_words}
 use Rattle.jobfile.specs.Job.{Job, Admitted}

@@ -9,7 +9,7 @@ use lib.ListN.{length}
 use Rattle.field.specs.Modulus.{Modulus}
 use Rattle.field.specs.Refusal.{NoTest, First}
 use Rattle.field.proofs.Tests.{modulus_passed}
-use Rattle.field.proofs.Refusal.{none_both, first_right}
+use Rattle.field.proofs.Outcome.{none_both, first_right}
 use Rattle.field.proofs.Truth.{same_of, neither}
 use Rattle.words.specs.Polynomial.{poly}
 use Rattle.relation.specs.Fraction.{HasFraction}

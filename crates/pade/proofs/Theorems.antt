@@ -8,7 +8,7 @@ use Prim.Native.Nat.{ℕ}
 use lib.ListN.{length}
 use Rattle.field.specs.Refusal.{NoTest, First, Outcome}
 use Rattle.field.specs.Answer.{Answer, result, refusal}
-use Rattle.field.proofs.Refusal.{first_unique, first_or_none, answer, no_result_refused}
+use Rattle.field.proofs.Outcome.{first_unique, first_or_none, answer, no_result_refused}
 use Rattle.words.specs.Polynomial.{poly}
 use Rattle.relation.specs.Polynomial.{PolynomialMultiple}
 use Rattle.relation.specs.Fraction.{Fraction, HasFraction}

@@ -4,7 +4,7 @@ use mathlib.Core.Logic.{inl, inr}
 use mathlib.Core.List.{List}
 use Prim.Native.Nat.{ℕ}
 use lib.ListN.{length}
-use Rattle.field.proofs.Refusal.{none_left, keep, same_outcome}
+use Rattle.field.proofs.Outcome.{none_left, keep, same_outcome}
 use Rattle.relation.proofs.Fraction.{lowest_unique}
 use Rattle.row.proofs.Rows.{list_ext}
 use Rattle.pade.specs.declared.PairAnswer.{PairAnswer}

@@ -10,7 +10,7 @@ use Rattle.field.specs.Calls.{Tests}
 use Rattle.field.proofs.Tests.{stopped}
 use Rattle.field.specs.Refusal.{NoTest, Outcome}
 use Rattle.field.specs.Answer.{result, refusal}
-use Rattle.field.proofs.Refusal.{first_left}
+use Rattle.field.proofs.Outcome.{first_left}
 use Rattle.words.specs.Polynomial.{poly}
 use Rattle.pade.specs.Orders.{arguments_order, last_order}
 use Rattle.pade.specs.Pair.{PairOutcome}

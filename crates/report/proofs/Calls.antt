@@ -7,7 +7,7 @@ use native.Mathlib.Decide.{dec_le}
 use native.Mathlib.Omega.{arith}
 use lib.ListN.{length}
 use Rattle.field.specs.Refusal.{Order, NoTest}
-use Rattle.field.proofs.Refusal.{same_outcome}
+use Rattle.field.proofs.Outcome.{same_outcome}
 use Rattle.field.proofs.Truth.{same_of}
 use Rattle.report.specs.Text.{basis_text, refusal_text}
 use Rattle.report.specs.declared.TextAnswer.{TextAnswer}

@@ -5,7 +5,7 @@ use Prim.Native.Nat.{ℕ, ◌+◌, ◌*◌, ◌≤◌, ◌<◌}
 use native.Mathlib.Omega.{arith}
 use lib.ListN.{length}
 use Rattle.field.specs.Refusal.{NoTest}
-use Rattle.field.proofs.Refusal.{none_left, none_right}
+use Rattle.field.proofs.Outcome.{none_left, none_right}
 use Rattle.field.proofs.Truth.{same_of}
 use Rattle.words.specs.Part.{part}
 use Rattle.words.proofs.Part.{part_fits, part_length}

@@ -11,7 +11,7 @@ use Prim.Native.Nat.{ℕ, ◌≤◌}
 use lib.ListN.{length}
 use Rattle.field.specs.Refusal.{NoTest, First, Outcome}
 use Rattle.field.specs.Answer.{Answer, refusal}
-use Rattle.field.proofs.Refusal.{no_result_refused}
+use Rattle.field.proofs.Outcome.{no_result_refused}
 use Rattle.field.proofs.Truth.{fails}
 use Rattle.words.specs.Some.{Some}
 use Rattle.sizes.specs.Lengths.{basis_length}

@@ -12,7 +12,7 @@ use native.Mathlib.Omega.{arith}
 use lib.ListN.{length}
 use Rattle.field.specs.Modulus.{Modulus}
 use Rattle.field.specs.Refusal.{NoTest}
-use Rattle.field.proofs.Refusal.{none_both, admitted}
+use Rattle.field.proofs.Outcome.{none_both, admitted}
 use Rattle.field.proofs.Truth.{exact}
 use Rattle.words.specs.Part.{part}
 use Rattle.words.specs.Some.{Some}

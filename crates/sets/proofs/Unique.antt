@@ -6,7 +6,7 @@ use Prim.Native.Nat.{ℕ, ◌<◌}
 use native.Mathlib.Nat.{mul-pos}
 use native.Mathlib.Omega.{arith}
 use lib.ListN.{length}
-use Rattle.field.proofs.Refusal.{keep, same_outcome}
+use Rattle.field.proofs.Outcome.{keep, same_outcome}
 use Rattle.words.specs.Part.{part}
 use Rattle.sizes.specs.Lengths.{basis_length}
 use Rattle.row.proofs.Rows.{parts_ext}

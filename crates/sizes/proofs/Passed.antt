@@ -7,7 +7,7 @@ use lib.ListN.{length}
 use Rattle.field.specs.Modulus.{Modulus}
 use Rattle.field.specs.Refusal.{NoTest, ◌when◌}
 use Rattle.field.proofs.Tests.{modulus_passed}
-use Rattle.field.proofs.Refusal.{none_left, none_right}
+use Rattle.field.proofs.Outcome.{none_left, none_right}
 use Rattle.field.proofs.Truth.{same_of, neither, no_either}
 use Rattle.words.specs.Some.{Some}
 use Rattle.sizes.specs.Entry.{EntryOutside}

@@ -1,6 +1,6 @@
 -- `lay_out` meets its contract: the writer does not refuse an admitted job.
 use mathlib.Core.Path.{ap, sym, ◌∙◌}
-use Rattle.field.proofs.Refusal.{no_result_refused}
+use Rattle.field.proofs.Outcome.{no_result_refused}
 use Rattle.jobfile.specs.Answers.{write_says}
 use Rattle.jobfile.proofs.Theorems.{writes_admitted}
 use Rattle.jobmake.proofs.MadeOf.{laid_out}
