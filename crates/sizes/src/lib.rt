@@ -7,7 +7,7 @@ ghost use Rattle.words.specs.Some.{Some};
 ghost use Rattle.sizes.specs.Entry.{EntryOutside};
 ghost use Rattle.sizes.specs.Orders.{start_order, sizes_order, job_order};
 
-use field::{Field, Tested};
+use field::{Field, Refusal};
 
 // What a job file and a text job say besides the type and the series.
 #[derive(Clone, Copy)]
@@ -17,36 +17,36 @@ pub struct JobSizes {
     pub s: u32,
 }
 
+// A job, with its type and its series as they are lent.
+#[derive(Clone, Copy)]
+pub struct Job<'a> {
+    pub sizes: JobSizes,
+    pub d: &'a [u32],
+    pub series: &'a [u32],
+}
+
 // 1, 2
-pub fn test_start(p: u32, n: u32) -> Tested
+pub fn test_start(p: u32, n: u32) -> Result<(), Refusal>
     ensures { Tests (start_order p n) result }
 {
     if !Field::admits(p) {
-        return Tested::Refused(1);
+        return Err(Refusal::Modulus);
     }
-    if n < 1 {
-        return Tested::Refused(2);
+    if n < 1 || n > 8 {
+        return Err(Refusal::Count);
     }
-    if n > 8 {
-        return Tested::Refused(2);
-    }
-    Tested::Passed
+    Ok(())
 }
 
 // 1, 2, 3
-pub fn test_sizes(p: u32, n: u32, s: u32) -> Tested
-    ensures { Tests (sizes_order p n s) result }
+pub fn test_sizes(sizes: JobSizes) -> Result<(), Refusal>
+    ensures { Tests (sizes_order sizes.p sizes.n sizes.s) result }
 {
-    match test_start(p, n) {
-        Tested::Passed => {
-            if s > 255 {
-                Tested::Refused(3)
-            } else {
-                Tested::Passed
-            }
-        }
-        Tested::Refused(k) => Tested::Refused(k),
+    test_start(sizes.p, sizes.n)?;
+    if sizes.s > 255 {
+        return Err(Refusal::Order);
     }
+    Ok(())
 }
 
 pub fn any_entry_outside(d: &[u32]) -> bool
@@ -56,21 +56,19 @@ pub fn any_entry_outside(d: &[u32]) -> bool
 }
 
 // 4 for type and series, 5, 6. Lengths are multiplied only once n and s are known to be small.
-pub fn test_job(p: u32, n: usize, s: usize, d: &[u32], series: &[u32]) -> Tested
-    requires { (n ≤ 8) × (s ≤ 255) }
-    ensures { Tests (job_order p n s d.now series.now) result }
+pub fn test_job(job: Job<'_>) -> Result<(), Refusal>
+    requires { (job.sizes.n ≤ 8) × (job.sizes.s ≤ 255) }
+    ensures { Tests (job_order job.entry.sizes.p job.entry.sizes.n job.entry.sizes.s job.entry.d.now job.entry.series.now) result }
 {
-    if d.len() != n {
-        return Tested::Refused(4);
+    let n = job.sizes.n as usize;
+    if job.d.len() != n || job.series.len() != n * job.sizes.s as usize {
+        return Err(Refusal::Length);
     }
-    if series.len() != n * s {
-        return Tested::Refused(4);
+    if any_entry_outside(job.d) {
+        return Err(Refusal::Entry);
     }
-    if any_entry_outside(d) {
-        return Tested::Refused(5);
+    if words::any_from(job.series, job.sizes.p) {
+        return Err(Refusal::Coefficient);
     }
-    if words::any_from(series, p) {
-        return Tested::Refused(6);
-    }
-    Tested::Passed
+    Ok(())
 }

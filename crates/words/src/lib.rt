@@ -30,12 +30,5 @@ pub fn copy(from: &[u32], into: &mut [u32])
 pub fn any_from(words: &[u32], bound: u32) -> bool
     ensures { (result ≡ true) ↔ Some (λ x. bound ≤ x) words.now }
 {
-    let mut i = 0;
-    while i < words.len() {
-        if words[i] >= bound {
-            return true;
-        }
-        i += 1;
-    }
-    false
+    words.iter().any(|word| *word >= bound)
 }

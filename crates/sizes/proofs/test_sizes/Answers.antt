@@ -1,13 +1,17 @@
 -- The modulus and the number of series, then the order.
-use native.Mathlib.Omega.{arith}
+use Rattle.std.proofs.Common.{Ok, Err, arith}
+use Rattle.std.proofs.lemmas.Result.{err_from_is_err_and}
+use Rattle.field.specs.declared.Refusal.{Refusal}
 use Rattle.field.proofs.Tests.{here, later, no_more, and_then, and_stop}
 use Rattle.sizes.proofs.test_sizes.Goals as goal
 
-pub returns-then-s-gt255 : goal.returns-then-s-gt255
-returns-then-s-gt255 c = and_then _ _ _ c.test_start.ensures _ c.in-Passed.is (here _ _ (omega arith))
+pub returns-in_err-test_start : goal.returns-in_err-test_start
+returns-in_err-test_start c =
+    let p = err_from_is_err_and c.from_residual.result c.from_residual.ensures.1 in
+    rw (p.1, p.2) (and_stop _ _ _ c.in_err-test_start.ensures)
 
-pub returns-else-s-gt255 : goal.returns-else-s-gt255
-returns-else-s-gt255 c = and_then _ _ _ c.test_start.ensures _ c.in-Passed.is (later _ _ _ (omega arith) no_more)
+pub returns-then-sizes-gt255 : goal.returns-then-sizes-gt255
+returns-then-sizes-gt255 c = and_then _ _ _ (Err Refusal.Order) c.in_ok-test_start.ensures (here _ _ Refusal.Order (omega arith))
 
-pub returns-in-Refused : goal.returns-in-Refused
-returns-in-Refused c = and_stop _ _ _ c.test_start.ensures _ c.in-Refused.is
+pub returns : goal.returns
+returns c = and_then _ _ _ (Ok _) c.in_ok-test_start.ensures (later _ _ (Ok _) (omega arith) (no_more _))
