@@ -2,15 +2,14 @@
 #![tactic(auto)]
 
 ghost use Rattle.std.specs.Prelude.{◌≡◌, ◌<◌, ◌^◌, pos, ◌-ℤ◌};
-ghost use Rattle.std.specs.Int.Signed.{lt_z};
 ghost use Rattle.sizes.specs.Entry.{entry_of};
 
-// deg: the plain degree of an entry. It is never compared for the order of rows.
+// deg: the plain degree of an entry. It has no order, so that none can decide between rows.
 #[derive(Clone, Copy)]
 pub struct Degree(pub usize);
 
 // deg_d: the shifted degree of a row. It can be negative.
-#[derive(Clone, Copy)]
+#[derive(Clone, Copy, PartialEq, Eq, PartialOrd, Ord)]
 pub struct ShiftedDegree(pub i64);
 
 impl ShiftedDegree {
@@ -19,15 +18,6 @@ impl ShiftedDegree {
         requires { deg.0 < 2 ^ 63 }
         ensures { result.0 ≡ pos deg.0 -ℤ entry_of d }
     {
-        let e = deg.0;
-        ShiftedDegree(e as i64 - d as i64)
-    }
-
-    pub fn is_below(self, other: ShiftedDegree) -> bool
-        ensures { result ≡ lt_z self.0 other.0 }
-    {
-        let a = self.0;
-        let b = other.0;
-        a < b
+        ShiftedDegree(deg.0 as i64 - d as i64)
     }
 }
