@@ -11,7 +11,8 @@ use Rattle.words.specs.Part.{part}
 use Rattle.words.proofs.Part.{lent}
 use Rattle.relation.specs.Vector.{Vect}
 use Rattle.words.specs.Polynomial.{poly}
-use Rattle.row.specs.View.{vector}
+use Rattle.degree.specs.declared.Degree.{Degree}
+use Rattle.row.specs.View.{vector, degree_at}
 
 pub part_at : (w k : ℕ) (xs : List ℕ) (t : ℕ) → t < w → poly (part w k xs) t ≡ poly xs (k * w + t)
 unfolding part poly
@@ -52,3 +53,7 @@ row_ext n w xs P e inside outside = fun_ext λ k. fun_ext λ t. elim (dec_lt k n
 pub vector_high : (w : ℕ) (xs : List ℕ) (k t : ℕ) → w ≤ t → vector w xs k t ≡ 0
 unfolding vector part
 vector_high w xs k t h = poly_past (take w (drop (k * w) xs)) t (omega (arith, length-take w (drop (k * w) xs)))
+
+-- the first n pivot degrees are those of the n rows
+pub front_degree : (n k : ℕ) (tops : List Degree) → k < n → degree_at (take n tops) k ≡ degree_at tops k
+front_degree n k tops h = ap (λ (x : Degree). x.0) (get_or-take n tops k (record { 0 = 0 }) h)

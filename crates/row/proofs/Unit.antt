@@ -6,14 +6,22 @@ use Prim.Native.Nat.{ℕ, ◌+◌, ◌*◌, ◌<◌}
 use native.Mathlib.Nat.{add-zero}
 use native.Mathlib.Decide.{ℕ_discrete, dec_lt}
 use native.Mathlib.Omega.{arith}
-use lib.ListN.{length, set, length-set}
+use lib.ListN.{length, replicate, set, length-set}
 use lib.Seq.{get_or-set_same, get_or-set_other}
+use Rattle.std.proofs.lemmas.List.{get_or-replicate, length-replicate}
 use Rattle.relation.specs.Operations.{unit}
 use Rattle.relation.proofs.Vector.{unit_other, unit_high, unit_one}
 use Rattle.words.specs.Polynomial.{poly}
 use Rattle.row.specs.View.{vector}
 use Rattle.words.proofs.Part.{part_fits, part_before}
-use Rattle.row.proofs.Part.{part_at, row_ext, vector_high}
+use Rattle.row.proofs.Part.{part_at, poly_past, row_ext, vector_high}
+
+pub zero_word : (n t : ℕ) → poly (replicate n 0) t ≡ 0
+unfolding poly
+zero_word n t = elim (dec_lt t n) [
+  | yes h ↦ get_or-replicate n t 0 0 h
+  | no h ↦ poly_past (replicate n 0) t (omega (arith, length-replicate {A = ℕ} n 0))
+]
 
 module _ (n w i : ℕ) (zs : List ℕ) (full : length zs ≡ n * w) (i<n : i < n) (0<w : 0 < w) (zero : (t : ℕ) → poly zs t ≡ 0) where
   -- entries do not meet

@@ -1,13 +1,9 @@
--- `add_row_multiple` meets its contract: the factor's residue is added, and a multiple of p leaves words below p as they are.
+-- `Shape::add_row_multiple` meets its contract: the factor's residue is added, and a multiple of p leaves words below p as they are.
 use mathlib.Core.Path.{refl, sym, ◌∙◌, fun_ext}
-use native.Mathlib.Nat.{mod-eq_of_lt, mod-lt}
-use native.Mathlib.Omega.{arith}
+use native.Mathlib.Nat.{mod-eq_of_lt}
 use Rattle.field.proofs.Residue.{drop_mult, sum_mul_left}
 use Rattle.relation.specs.Operations.{add_multiple}
-use Rattle.row.proofs.add_row_multiple.Goals as goal
-
-pub fixed-requires : goal.fixed-requires
-fixed-requires c = mod-lt _ (omega arith)
+use Rattle.row.proofs.Shape.add_row_multiple.Goals as goal
 
 pub returns-then-a-ne0 : goal.returns-then-a-ne0
 unfolding add_multiple
