@@ -8,6 +8,7 @@ use lib.Dec.{ltb, leb-suc-suc}
 use lib.IntN.{ℤ, pos, negsuc, suc_ℤ, ◌+ℤ◌, +ℤ_idr, +ℤ-suc_ℤ}
 use lib.ListN.{get_or}
 use lib.Signed.{lt_z}
+use Rattle.std.proofs.Common.{Bool, true, false, cond, is_lt, int_cmp, Less, Equal, Greater}
 use borrow.Author.Tests.{lt-ltb, le-ltb}
 use Rattle.sizes.specs.Entry.{type_of}
 use Rattle.sizes.proofs.Entry.{above_outside}
@@ -15,6 +16,15 @@ use Rattle.relation.specs.ShiftedDegree.{shift}
 use Rattle.relation.specs.Weight.{less}
 use Rattle.relation.proofs.Shift.{Offset, lifted}
 use Rattle.step.specs.Offset.{offset_of, TypeWords}
+
+lower : (a b : Bool) → is_lt (cond a Less (cond b Greater Equal)) ≡ a
+lower true b = refl
+lower false true = refl
+lower false false = refl
+
+-- a comparison that says less is a test
+pub less_is_below : (x y : ℤ) → is_lt (int_cmp x y) ≡ lt_z x y
+less_is_below x y = lower (lt_z x y) (lt_z y x)
 
 lt_z_suc : (x y : ℤ) → lt_z (suc_ℤ x) (suc_ℤ y) ≡ lt_z x y
 lt_z_suc (pos a) (pos b) = leb-suc-suc (suc a) b

@@ -9,6 +9,7 @@ use native.Mathlib.Decide.{dec_lt}
 use native.Mathlib.Omega.{arith}
 use lib.ListN.{length}
 use lib.Seq.{ext_get_or}
+use Rattle.std.specs.Prelude.{Option, None, Some}
 use Rattle.relation.specs.Vector.{Vect}
 use Rattle.relation.proofs.Weight.{weight_inj}
 use Rattle.relation.specs.ReducedBasis.{ReducedBasis}
@@ -17,19 +18,18 @@ use Rattle.degree.specs.declared.Degree.{Degree}
 use Rattle.row.specs.View.{row, degree_at}
 use Rattle.row.proofs.Part.{poly_past}
 use Rattle.row.proofs.Rows.{list_ext, rows_ext}
-use Rattle.step.specs.declared.Found.{Found}
 use Rattle.step.specs.Offset.{offset_of, row_weight, TopsEndAt}
 use Rattle.step.specs.Search.{LeastAmong}
 
 -- no two rows have one weight
-pub least_row_unique : (n : ℕ) (flag : ℕ → ℕ) (d : List ℕ) (tops : List Degree) (r r' : Found)
+pub least_row_unique : (n : ℕ) (flag : ℕ → ℕ) (d : List ℕ) (tops : List Degree) (r r' : Option ℕ)
     → LeastAmong n flag (row_weight n d tops) r → LeastAmong n flag (row_weight n d tops) r' → r ≡ r'
-least_row_unique n flag d tops (Found.Row i) (Found.Row j) a b =
+least_row_unique n flag d tops (Some i) (Some j) a b =
     let e : row_weight n d tops i ≡ row_weight n d tops j = le_antisymm (a.least j b.row< b.nonzero) (b.least i a.row< a.nonzero) in
-    ap Found.Row (weight_inj n (offset_of d) i (degree_at tops i) j (degree_at tops j) a.row< b.row< e).0
-least_row_unique n flag d tops (Found.Row i) Found.Nothing a b = absurd (a.nonzero (b i a.row<))
-least_row_unique n flag d tops Found.Nothing (Found.Row j) a b = absurd (b.nonzero (a j b.row<))
-least_row_unique n flag d tops Found.Nothing Found.Nothing a b = refl
+    ap Some (weight_inj n (offset_of d) i (degree_at tops i) j (degree_at tops j) a.row< b.row< e).0
+least_row_unique n flag d tops (Some i) None a b = absurd (a.nonzero (b i a.row<))
+least_row_unique n flag d tops None (Some j) a b = absurd (b.nonzero (a j b.row<))
+least_row_unique n flag d tops None None a b = refl
 
 degrees_ext : (t u : List Degree) → length t ≡ length u → ((l : ℕ) → degree_at t l ≡ degree_at u l) → t ≡ u
 degrees_ext t u e h = ext_get_or (record { 0 = 0 }) t u e (λ l g. ap (λ (x : ℕ). record { 0 = x }) (h l))

@@ -2,3 +2,4 @@
 pub mod Offset
 pub mod Search
 pub mod Factor
+pub mod Prime

@@ -1,79 +1,75 @@
 // From the reduced minimal basis of V_j to that of V_(j+1): document 000, Theorem 6, with the basis kept reduced at every order.
 #![tactic(auto)]
 
-ghost use Rattle.std.specs.Prelude.{◌≡◌, ◌≢◌, ℕ, ◌+◌, ◌*◌, ◌-◌, ◌%◌, ◌<◌, ◌≤◌, length, get_or};
+ghost use Rattle.std.specs.Prelude.{◌≡◌, ◌≢◌, ℕ, ◌+◌, ◌*◌, ◌-◌, ◌%◌, ◌<◌, ◌≤◌, length, get_or, IfSome};
 ghost use Rattle.field.specs.Prime.{Prime};
 ghost use Rattle.relation.specs.Product.{dot};
 ghost use Rattle.relation.specs.Operations.{add_multiple, add_multiples, unit};
 ghost use Rattle.relation.specs.ReducedBasis.{ReducedBasis};
 ghost use Rattle.row.specs.View.{vector, row as row_of, degree_at};
-ghost use Rattle.row.specs.Shape.{RowEndsAt, Residues};
+ghost use Rattle.row.specs.Shape.{RowEndsAt, Residues, TopsBelow};
 ghost use Rattle.step.specs.Offset.{offset_of, row_weight, TypeWords, TopsWithin, TopsEndAt};
 ghost use Rattle.step.specs.Search.{LeastAmong, Nearer};
 ghost use Rattle.step.specs.Factor.{factor, column_factor, BasisShape, Moved};
+ghost use Rattle.step.specs.Prime.{Prime-prop};
 
 use degree::{Degree, ShiftedDegree};
 use field::Field;
+use row::Shape;
 
+// What a basis is asked for: n series to order s, of the type that the words d say. The series lie end to end, s words each.
 #[derive(Clone, Copy)]
-pub enum Found {
-    Row(usize),
-    Nothing,
+pub struct Problem<'a> {
+    pub field: Field,
+    pub n: usize,
+    pub s: usize,
+    pub d: &'a [u32],
+    pub series: &'a [u32],
+    pub ghost prime: { Prime field.modulus } by { Prime-prop field.modulus },
+    pub ghost few: { n ≤ 8 },
+    pub ghost short: { s ≤ 255 },
+    pub ghost types: { TypeWords n d.now },
+    pub ghost full: { length series.now ≡ n * s },
 }
 
-// The nearer of two rows: a lower shifted degree, and on a tie the row that was there. No row yet is the number n.
-fn nearer(best: usize, l: usize, tops: [Degree; 8], d: &[u32], n: usize) -> usize
-    requires { (n ≤ 8) × (l < n) × (best ≤ n) × TypeWords n d.now × TopsWithin n 255 tops }
-    ensures { Nearer n (λ k. degree_at tops k + offset_of d.now k) best l result }
+// The nearer of two rows: a lower shifted degree, and on a tie the row that was there.
+fn nearer(best: Option<usize>, l: usize, tops: [Degree; 8], d: &[u32], n: usize) -> usize
+    requires { (n ≤ 8) × (l < n) × IfSome best (λ k. k < n) × TypeWords n d.now × TopsWithin n 255 tops }
+    ensures { Nearer (λ k. degree_at tops k + offset_of d.now k) best l result }
 {
-    if best == n {
+    let Some(best) = best else {
         return l;
-    }
+    };
     let old = ShiftedDegree::of(tops[best], d[best]);
     let new = ShiftedDegree::of(tops[l], d[l]);
-    if new.is_below(old) { l } else { best }
+    if new < old { l } else { best }
 }
 
 // The row of least shifted degree, then of least type, among those whose flag is not 0.
-pub fn least_row(flags: [u32; 8], tops: [Degree; 8], d: &[u32], n: usize) -> Found
+pub fn least_row(flags: [u32; 8], tops: [Degree; 8], d: &[u32], n: usize) -> Option<usize>
     requires { (n ≤ 8) × TypeWords n d.now × TopsWithin n 255 tops }
     ensures { LeastAmong n (λ l. get_or flags l 0) (row_weight n d.now tops) result }
 {
-    let mut best = n;
-    let mut l = 0;
-    while l < n {
+    let mut best = None;
+    for l in 0..n {
         if flags[l] != 0 {
-            best = nearer(best, l, tops, d, n);
+            best = Some(nearer(best, l, tops, d, n));
         }
-        l += 1;
     }
-    if best < n {
-        return Found::Row(best);
-    }
-    Found::Nothing
+    best
 }
 
 // The coefficient of X^at in each row's sum of products with the series.
-fn coefficients(
-    f: Field,
-    basis: &[u32],
-    series: &[u32],
-    tops: [Degree; 8],
-    n: usize,
-    s: usize,
-    at: usize,
-) -> [u32; 8]
-    requires sizes { (1 < f.modulus) × (n ≤ 8) × (at < s) × (s ≤ 255) × (length basis.now ≡ n * (n * (s + 1))) × (length series.now ≡ n * s) }
-    requires rows_end { (l : ℕ) → l < n → RowEndsAt n (row_of n (s + 1) basis.now l) (degree_at tops) }
-    ensures { ((l : ℕ) → l < n → get_or result l 0 ≡ dot n (row_of n (s + 1) basis.now l) (vector s series.now) at % f.modulus)
-        × ((l : ℕ) → n ≤ l → get_or result l 0 ≡ 0) }
+fn coefficients(f: Field, basis: &[u32], series: &[u32], shape: &Shape, at: usize) -> [u32; 8]
+    requires sizes { (1 < f.modulus) × (at + 1 < shape.now.width) × (shape.now.width ≤ 256) × (length basis.now ≡ shape.now.n * (shape.now.n * shape.now.width)) × (length series.now ≡ shape.now.n * (shape.now.width - 1)) }
+    requires rows_end { (l : ℕ) → l < shape.now.n → RowEndsAt shape.now.n (row_of shape.now.n shape.now.width basis.now l) (degree_at shape.now.tops) }
+    ensures { ((l : ℕ) → l < shape.now.n → get_or result l 0 ≡ dot shape.now.n (row_of shape.now.n shape.now.width basis.now l) (vector (shape.now.width - 1) series.now) at % f.modulus)
+        × ((l : ℕ) → shape.now.n ≤ l → get_or result l 0 ≡ 0) }
 {
-    let size = n * (s + 1);
+    let size = shape.n * shape.width;
     let mut c = [0u32; 8];
-    let mut l = 0;
-    while l < n {
-        c[l] = row::row_product(f, words::part_at(basis, l, size), series, tops, n, s, at);
-        l += 1;
+    for l in 0..shape.n {
+        c[l] = shape.row_product(f, words::part_at(basis, l, size), series, at);
     }
     c
 }
@@ -86,63 +82,43 @@ fn clear_rows(
     c: [u32; 8],
     h: u32,
     i: usize,
-    tops: [Degree; 8],
-    n: usize,
-    width: usize,
+    shape: &Shape,
 )
-    requires sizes { (0 < f.modulus) × (n ≤ 8) × (i < n) × (width ≤ 256) × (length basis.old ≡ n * (n * width)) × (length pivot.now ≡ n * width) }
-    requires tops_below { (k : ℕ) → k < n → degree_at tops k < width }
-    requires residues { (l : ℕ) → l < n → Residues f.modulus (row_of n width basis.old l) }
-    requires pivot_ends { RowEndsAt n (vector width pivot.now) (degree_at tops) }
+    requires sizes { (0 < f.modulus) × (i < shape.now.n) × (shape.now.width ≤ 256) × (length basis.old ≡ shape.now.n * (shape.now.n * shape.now.width)) × (length pivot.now ≡ shape.now.n * shape.now.width) }
+    requires tops_below { TopsBelow shape.now.n shape.now.width shape.now.tops }
+    requires residues { (l : ℕ) → l < shape.now.n → Residues f.modulus (row_of shape.now.n shape.now.width basis.old l) }
+    requires pivot_ends { RowEndsAt shape.now.n (vector shape.now.width pivot.now) (degree_at shape.now.tops) }
     ensures { (length basis.new ≡ length basis.old)
-        × ((l : ℕ) → l < n → l ≢ i → row_of n width basis.new l
-        ≡ add_multiple f.modulus (factor f.modulus h (λ k. get_or c k 0) l) (vector width pivot.now) (row_of n width basis.old l))
-        × (row_of n width basis.new i ≡ row_of n width basis.old i) }
+        × ((l : ℕ) → l < shape.now.n → l ≢ i → row_of shape.now.n shape.now.width basis.new l
+        ≡ add_multiple f.modulus (factor f.modulus h (λ k. get_or c k 0) l) (vector shape.now.width pivot.now) (row_of shape.now.n shape.now.width basis.old l))
+        × (row_of shape.now.n shape.now.width basis.new i ≡ row_of shape.now.n shape.now.width basis.old i) }
 {
-    let size = n * width;
-    let mut l = 0;
-    while l < n {
+    let size = shape.n * shape.width;
+    for l in 0..shape.n {
         if l != i {
             let m = f.plus_product(0, c[l], h);
-            let start = l * size;
-            let end = start + size;
-            row::add_row_multiple(f, &mut basis[start..end], pivot, m, tops, n, width);
+            shape.add_row_multiple(f, &mut basis[l * size..l * size + size], pivot, m);
         }
-        l += 1;
     }
 }
 
 // Every column but i of X times the pivot row is cleared by a multiple of the row of that type.
-fn clear_columns(
-    f: Field,
-    moved: &mut [u32],
-    basis: &[u32],
-    i: usize,
-    tops: [Degree; 8],
-    n: usize,
-    width: usize,
-)
-    requires sizes { (0 < f.modulus) × (n ≤ 8) × (width ≤ 256) × (length basis.now ≡ n * (n * width)) × (length moved.old ≡ n * width) }
-    requires tops_below { (k : ℕ) → k < n → degree_at tops k < width }
-    requires residues { Residues f.modulus (vector width moved.old) }
-    requires rows_end { (l : ℕ) → l < n → l ≢ i → RowEndsAt n (row_of n width basis.now l) (degree_at tops) }
-    requires columns_clear { (l k : ℕ) → l < n → k < n → l ≢ i → k ≢ i → l ≢ k → row_of n width basis.now l k (degree_at tops k) ≡ 0 }
+fn clear_columns(f: Field, moved: &mut [u32], basis: &[u32], i: usize, shape: &Shape)
+    requires sizes { (0 < f.modulus) × (shape.now.width ≤ 256) × (length basis.now ≡ shape.now.n * (shape.now.n * shape.now.width)) × (length moved.old ≡ shape.now.n * shape.now.width) }
+    requires tops_below { TopsBelow shape.now.n shape.now.width shape.now.tops }
+    requires residues { Residues f.modulus (vector shape.now.width moved.old) }
+    requires rows_end { (l : ℕ) → l < shape.now.n → l ≢ i → RowEndsAt shape.now.n (row_of shape.now.n shape.now.width basis.now l) (degree_at shape.now.tops) }
+    requires columns_clear { (l k : ℕ) → l < shape.now.n → k < shape.now.n → l ≢ i → k ≢ i → l ≢ k → row_of shape.now.n shape.now.width basis.now l k (degree_at shape.now.tops k) ≡ 0 }
     ensures { (length moved.new ≡ length moved.old)
-        × (vector width moved.new
-        ≡ add_multiples f.modulus n (column_factor f.modulus i (degree_at tops) (vector width moved.old)) (row_of n width basis.now) (vector width moved.old)) }
+        × (vector shape.now.width moved.new
+        ≡ add_multiples f.modulus shape.now.n (column_factor f.modulus i (degree_at shape.now.tops) (vector shape.now.width moved.old)) (row_of shape.now.n shape.now.width basis.now) (vector shape.now.width moved.old)) }
 {
-    let p = f.modulus;
-    let size = n * width;
-    let mut k = 0;
-    while k < n {
+    let size = shape.n * shape.width;
+    for k in 0..shape.n {
         if k != i {
-            let top = tops[k];
-            let e = top.0;
-            let at = k * width + e;
-            let a = p - moved[at];
-            row::add_row_multiple(f, moved, words::part_at(basis, k, size), a, tops, n, width);
+            let a = f.modulus - moved[k * shape.width + shape.tops[k].0];
+            shape.add_row_multiple(f, moved, words::part_at(basis, k, size), a);
         }
-        k += 1;
     }
 }
 
@@ -155,24 +131,20 @@ fn move_by(
     c: [u32; 8],
     h: u32,
     i: usize,
-    tops: [Degree; 8],
-    n: usize,
-    width: usize,
+    shape: &Shape,
 )
-    requires sizes { (0 < f.modulus) × (n ≤ 8) × (i < n) × (width ≤ 256) × (length basis.old ≡ n * (n * width)) × (length pivot.now ≡ n * width) × (length moved.old ≡ n * width) }
-    requires tops_below { (k : ℕ) → k < n → degree_at tops k + 1 < width }
-    requires shape { BasisShape f.modulus n (row_of n width basis.old) (degree_at tops) }
-    requires pivot { vector width pivot.now ≡ row_of n width basis.old i }
+    requires sizes { (0 < f.modulus) × (i < shape.now.n) × (shape.now.width ≤ 256) × (length basis.old ≡ shape.now.n * (shape.now.n * shape.now.width)) × (length pivot.now ≡ shape.now.n * shape.now.width) × (length moved.old ≡ shape.now.n * shape.now.width) }
+    requires tops_below { (k : ℕ) → k < shape.now.n → degree_at shape.now.tops k + 1 < shape.now.width }
+    requires shape { BasisShape f.modulus shape.now.n (row_of shape.now.n shape.now.width basis.old) (degree_at shape.now.tops) }
+    requires pivot { vector shape.now.width pivot.now ≡ row_of shape.now.n shape.now.width basis.old i }
     ensures { (length basis.new ≡ length basis.old)
-        × Moved f.modulus n (factor f.modulus h (λ k. get_or c k 0)) (degree_at tops) i (row_of n width basis.old) (row_of n width basis.new) }
+        × Moved f.modulus shape.now.n (factor f.modulus h (λ k. get_or c k 0)) (degree_at shape.now.tops) i (row_of shape.now.n shape.now.width basis.old) (row_of shape.now.n shape.now.width basis.new) }
 {
-    clear_rows(f, basis, pivot, c, h, i, tops, n, width);
-    row::row_times_x(pivot, moved, n, width);
-    clear_columns(f, moved, basis, i, tops, n, width);
-    let size = n * width;
-    let start = i * size;
-    let end = start + size;
-    words::copy(moved, &mut basis[start..end]);
+    clear_rows(f, basis, pivot, c, h, i, shape);
+    shape.row_times_x(pivot, moved);
+    clear_columns(f, moved, basis, i, shape);
+    let size = shape.n * shape.width;
+    basis[i * size..i * size + size].copy_from_slice(moved);
 }
 
 // The same, where both are working rows. h is minus the inverse of row i's coefficient.
@@ -184,107 +156,84 @@ fn move_row(
     c: [u32; 8],
     h: u32,
     i: usize,
-    tops: [Degree; 8],
-    n: usize,
-    width: usize,
+    shape: &Shape,
 )
-    requires sizes { (0 < f.modulus) × (n ≤ 8) × (i < n) × (width ≤ 256) × (length basis.old ≡ n * (n * width)) × (length pivot.old ≡ n * width) × (length moved.old ≡ n * width) }
-    requires tops_below { (k : ℕ) → k < n → degree_at tops k + 1 < width }
-    requires shape { BasisShape f.modulus n (row_of n width basis.old) (degree_at tops) }
+    requires sizes { (0 < f.modulus) × (i < shape.now.n) × (shape.now.width ≤ 256) × (length basis.old ≡ shape.now.n * (shape.now.n * shape.now.width)) × (length pivot.old ≡ shape.now.n * shape.now.width) × (length moved.old ≡ shape.now.n * shape.now.width) }
+    requires tops_below { (k : ℕ) → k < shape.now.n → degree_at shape.now.tops k + 1 < shape.now.width }
+    requires shape { BasisShape f.modulus shape.now.n (row_of shape.now.n shape.now.width basis.old) (degree_at shape.now.tops) }
     ensures { (length basis.new ≡ length basis.old)
-        × Moved f.modulus n (factor f.modulus h (λ k. get_or c k 0)) (degree_at tops) i (row_of n width basis.old) (row_of n width basis.new) }
+        × Moved f.modulus shape.now.n (factor f.modulus h (λ k. get_or c k 0)) (degree_at shape.now.tops) i (row_of shape.now.n shape.now.width basis.old) (row_of shape.now.n shape.now.width basis.new) }
 {
-    let size = n * width;
-    words::copy(words::part_at(basis, i, size), pivot);
-    move_by(f, basis, pivot, moved, c, h, i, tops, n, width);
+    pivot.copy_from_slice(words::part_at(basis, i, shape.n * shape.width));
+    move_by(f, basis, pivot, moved, c, h, i, shape);
 }
 
-// One order more: the reduced minimal basis of V_(at+1) from that of V_at, in place. The answer has the new pivot degrees. pivot and moved are working rows.
+// One order more: the reduced minimal basis of V_(at+1) from that of V_at, with its pivot degrees, in place. pivot and moved are working rows.
 fn step(
-    f: Field,
+    problem: Problem<'_>,
     basis: &mut [u32],
     pivot: &mut [u32],
     moved: &mut [u32],
-    d: &[u32],
-    series: &[u32],
-    tops: [Degree; 8],
-    n: usize,
-    s: usize,
+    tops: &mut [Degree; 8],
     at: usize,
-) -> [Degree; 8]
-    requires sizes { Prime f.modulus × (n ≤ 8) × (at < s) × (s ≤ 255) × TypeWords n d.now × (length series.now ≡ n * s) × (length basis.old ≡ n * (n * (s + 1))) × (length pivot.old ≡ n * (s + 1)) × (length moved.old ≡ n * (s + 1)) }
-    requires reduced { ReducedBasis f.modulus n (offset_of d.now) (vector s series.now) at (row_of n (s + 1) basis.old) (degree_at tops) }
+)
+    requires sizes { (at < problem.s) × (length basis.old ≡ problem.n * (problem.n * (problem.s + 1))) × (length pivot.old ≡ problem.n * (problem.s + 1)) × (length moved.old ≡ problem.n * (problem.s + 1)) }
+    requires reduced { ReducedBasis problem.field.modulus problem.n (offset_of problem.d.now) (vector problem.s problem.series.now) at (row_of problem.n (problem.s + 1) basis.old) (degree_at tops.old) }
     ensures { (length basis.new ≡ length basis.old)
-        × ReducedBasis f.modulus n (offset_of d.now) (vector s series.now) (at + 1) (row_of n (s + 1) basis.new) (degree_at result)
-        × ((l : ℕ) → n ≤ l → degree_at result l ≡ degree_at tops l) }
+        × ReducedBasis problem.entry.field.modulus problem.entry.n (offset_of problem.entry.d.now) (vector problem.entry.s problem.entry.series.now) (at + 1) (row_of problem.entry.n (problem.entry.s + 1) basis.new) (degree_at tops.new)
+        × ((l : ℕ) → problem.entry.n ≤ l → degree_at tops.new l ≡ degree_at tops.old l) }
 {
-    let width = s + 1;
-    let c = coefficients(f, basis, series, tops, n, s, at);
-    match least_row(c, tops, d, n) {
-        Found::Nothing => tops,
-        Found::Row(i) => {
-            let p = f.modulus;
-            let g = f.inverse(c[i]);
-            move_row(f, basis, pivot, moved, c, p - g, i, tops, n, width);
-            let top = tops[i];
-            let e = top.0;
-            let mut next = tops;
-            next[i] = Degree(e + 1);
-            next
-        }
+    let f = problem.field;
+    let shape = Shape {
+        n: problem.n,
+        width: problem.s + 1,
+        tops: *tops,
+    };
+    let c = coefficients(f, basis, problem.series, &shape, at);
+    if let Some(i) = least_row(c, *tops, problem.d, problem.n) {
+        let g = f.inverse(c[i]);
+        move_row(f, basis, pivot, moved, c, f.modulus - g, i, &shape);
+        tops[i] = Degree(tops[i].0 + 1);
     }
 }
 
 // The identity, the basis of V_0.
-fn identity(basis: &mut [u32], n: usize, width: usize)
-    requires { (n ≤ 8) × (0 < width) × (width ≤ 256) × (length basis.old ≡ n * (n * width)) }
-    ensures { (length basis.new ≡ length basis.old) × ((l : ℕ) → l < n → row_of n width basis.new l ≡ unit l) }
+fn identity(basis: &mut [u32], shape: &Shape)
+    requires { (0 < shape.now.width) × (shape.now.width ≤ 256) × (length basis.old ≡ shape.now.n * (shape.now.n * shape.now.width)) }
+    ensures { (length basis.new ≡ length basis.old) × ((l : ℕ) → l < shape.now.n → row_of shape.now.n shape.now.width basis.new l ≡ unit l) }
 {
-    let size = n * width;
-    let mut i = 0;
-    while i < n {
-        let start = i * size;
-        let end = start + size;
-        row::unit_row(&mut basis[start..end], i, n, width);
-        i += 1;
+    let size = shape.n * shape.width;
+    for i in 0..shape.n {
+        shape.unit_row(&mut basis[i * size..i * size + size], i);
     }
 }
 
 // The reduced minimal basis of V_s: one step for each order, all with the same two working rows. The answer has the pivot degrees, and 0 past them.
-pub fn reduced_basis(
-    f: Field,
-    n: usize,
-    s: usize,
-    d: &[u32],
-    series: &[u32],
-    out: &mut [u32],
-) -> [Degree; 8]
-    requires { Prime f.modulus × (n ≤ 8) × (s ≤ 255) × TypeWords n d.now × (length series.now ≡ n * s) × (length out.old ≡ n * (n * (s + 1))) }
+pub fn reduced_basis(problem: Problem<'_>, out: &mut [u32]) -> [Degree; 8]
+    requires { length out.old ≡ problem.n * (problem.n * (problem.s + 1)) }
     ensures { (length out.new ≡ length out.old)
-        × ReducedBasis f.modulus n (offset_of d.now) (vector s series.now) s (row_of n (s + 1) out.new) (degree_at result)
-        × TopsEndAt n result }
+        × ReducedBasis problem.entry.field.modulus problem.entry.n (offset_of problem.entry.d.now) (vector problem.entry.s problem.entry.series.now) problem.entry.s (row_of problem.entry.n (problem.entry.s + 1) out.new) (degree_at result)
+        × TopsEndAt problem.entry.n result }
 {
-    let size = n * (s + 1);
+    let size = problem.n * (problem.s + 1);
     let mut pivot = [0u32; 2048];
     let mut moved = [0u32; 2048];
-    identity(out, n, s + 1);
     let mut tops = [Degree(0); 8];
-    let mut at = 0;
-    while at < s {
-        let next = step(
-            f,
+    let shape = Shape {
+        n: problem.n,
+        width: problem.s + 1,
+        tops,
+    };
+    identity(out, &shape);
+    for at in 0..problem.s {
+        step(
+            problem,
             out,
             &mut pivot[..size],
             &mut moved[..size],
-            d,
-            series,
-            tops,
-            n,
-            s,
+            &mut tops,
             at,
         );
-        tops = next;
-        at += 1;
     }
     tops
 }

@@ -1,6 +1,6 @@
 -- `move_row` meets its contract: the first working row holds row i.
 use mathlib.Core.Path.{◌≡◌, ap, ◌∙◌}
-use Prim.Native.Nat.{ℕ, ◌*◌}
+use Prim.Native.Nat.{◌*◌}
 use native.Mathlib.Omega.{arith}
 use lib.ListN.{length}
 use Rattle.row.specs.View.{row as row_of}
@@ -8,23 +8,20 @@ use Rattle.words.proofs.Part.{part_fits, part_length}
 use Rattle.step.proofs.move_row.Goals as goal
 use Rattle.step.proofs.move_row.Goals.{After-part_at}
 
-abbrev size : After-part_at → ℕ
-size c = c.args.n * c.args.width
-
-copied_length : (c : After-part_at) → length c.part_at.result.now ≡ size c
+copied_length : (c : After-part_at)
+    → let shape = c.args.shape.now in
+    length c.part_at.result.now ≡ shape.n * shape.width
 copied_length c =
-    let args = c.args in
-    let fits = part_fits args.n (size c) args.i (omega arith) in
-    ap length c.part_at.ensures ∙ part_length (size c) args.i args.basis.now (omega arith)
+    let shape = c.args.shape.now in
+    let size = shape.n * shape.width in
+    let fits = part_fits shape.n size c.args.i (omega arith) in
+    ap length c.part_at.ensures ∙ part_length size c.args.i c.args.basis.now (omega arith)
 
-pub part_at-requires : goal.part_at-requires
-part_at-requires c =
-    let args = c.args in
-    omega (arith, part_fits args.n (args.n * args.width) args.i (omega arith))
-
-pub copy-requires : goal.copy-requires
-copy-requires c = omega (arith, copied_length (goal.at.copy-requires c).After-part_at)
+pub copy_from_slice-requires : goal.copy_from_slice-requires
+copy_from_slice-requires c = omega (arith, copied_length (goal.at.copy_from_slice-requires c).After-part_at)
 
 pub move_by-requires : goal.move_by-requires
 unfolding row_of
-move_by-requires c = record { sizes = (omega arith, omega arith, omega arith, omega arith, c.requires.sizes.4, ap length c.copy.ensures ∙ copied_length (goal.at.move_by-requires c).After-part_at, c.requires.sizes.6); tops_below = c.requires.tops_below; shape = c.requires.shape; pivot = rw (c.copy.ensures, c.part_at.ensures) }
+move_by-requires c =
+    let copied = c.copy_from_slice.ensures.after in
+    record { sizes = (omega arith, omega arith, omega arith, c.requires.sizes.3, ap length copied ∙ copied_length (goal.at.move_by-requires c).After-part_at, c.requires.sizes.5); tops_below = c.requires.tops_below; shape = c.requires.shape; pivot = rw (copied, c.part_at.ensures) }
