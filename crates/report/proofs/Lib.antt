@@ -1,5 +1,6 @@
 -- The laws that the proofs of the report cite.
 pub mod Wrote
+pub mod Appended
 pub mod Decimal
 pub mod Signed
 pub mod Entry

@@ -5,4 +5,5 @@ pub mod Entry
 pub mod Words
 pub mod Text
 pub mod Wrote
+pub mod Appended
 pub mod Calls

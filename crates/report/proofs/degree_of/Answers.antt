@@ -3,10 +3,6 @@ use native.Mathlib.Omega.{arith}
 use Rattle.report.specs.Entry.{degree}
 use Rattle.report.proofs.degree_of.Goals as goal
 
-pub returns-then-k-eq0 : goal.returns-then-k-eq0
+pub returns : goal.returns
 unfolding degree
-returns-then-k-eq0 c = omega (arith, c.used-k.ensures)
-
-pub returns-else-k-eq0 : goal.returns-else-k-eq0
-unfolding degree
-returns-else-k-eq0 c = omega (arith, c.used-k.ensures)
+returns c = grind (arith, c.last_nonzero.ensures, c.unwrap_or.ensures)

@@ -3,6 +3,7 @@ use mathlib.Core.Path.{refl}
 use mathlib.Core.List.{List}
 use Prim.Native.Nat.{ℕ, ◌^◌, ◌<◌}
 use lib.ListN.{length}
+use borrow.Author.Rules.{rules}
 use native.Mathlib.Omega.{arith}
 use Rattle.field.proofs.Tests.{passed, answers, refuses}
 use Rattle.report.specs.Calls.{BasisTextOutcome}
@@ -40,7 +41,7 @@ pub returns-in-Passed : goal.returns-in-Passed
 unfolding BasisTextOutcome
 returns-in-Passed c =
     let b = passes (goal.at.returns-in-Passed c).In-Passed (λ k. (c.type_inv.d k).fits) (λ k. (c.type_inv.basis k).fits) in
-    answers _ _ _ _ c.test_basis.ensures c.in-Passed.is (wrote_answer b.1 c.put_basis.ensures)
+    answers _ _ _ _ c.test_basis.ensures c.in-Passed.is (wrote_answer b.1 (search rules))
 
 pub returns-in-Refused : goal.returns-in-Refused
 unfolding BasisTextOutcome

@@ -4,6 +4,7 @@ use mathlib.Core.Logic.{inl, inr}
 use mathlib.Core.List.{List}
 use Prim.Native.Nat.{ℕ, ◌^◌, ◌<◌}
 use lib.ListN.{length}
+use borrow.Author.Rules.{rules}
 use native.Mathlib.Omega.{arith}
 use Rattle.field.specs.Refusal.{NoTest, First, Outcome}
 use Rattle.report.specs.Calls.{RefusalTextOutcome, text_bytes}
@@ -29,4 +30,4 @@ put_numbered-requires c =
 pub returns : goal.returns
 unfolding RefusalTextOutcome Outcome NoTest refusal_text
 returns c =
-    inl (((λ h. h c.if-out-ne-TEXT.false), tt), wrote_answer (room c.args.k c.args.out.now c.ranges.k.fits (omega arith)) c.put_numbered.ensures)
+    inl (((λ h. h c.if-out-ne-TEXT.false), tt), wrote_answer (room c.args.k c.args.out.now c.ranges.k.fits (omega arith)) (search rules))
