@@ -1,6 +1,7 @@
 -- The laws that the proofs of the report cite.
 pub mod Wrote
 pub mod Appended
+pub mod Chunks
 pub mod Decimal
 pub mod Signed
 pub mod Entry

@@ -1,7 +1,7 @@
 // The text of a basis: the lines that `relations` prints, written to a lent buffer piece by piece.
 #![tactic(auto)]
 
-ghost use Rattle.std.specs.Prelude.{◌≡◌, ◌+◌, ◌*◌, ◌<◌, ◌≤◌, length, MatchOption};
+ghost use Rattle.std.specs.Prelude.{◌≡◌, ◌+◌, ◌*◌, ◌/◌, ◌<◌, ◌≤◌, length, MatchOption};
 ghost use Rattle.field.specs.Calls.{Tests};
 ghost use Rattle.report.specs.Decimal.{decimal, signed};
 ghost use Rattle.report.specs.Entry.{trim, degree};
@@ -88,12 +88,12 @@ impl Writer<'_> {
         }
     }
 
-    fn put_entries(&mut self, row: &[u32], n: usize, w: usize)
-        requires { (length row.now ≡ n * w) × RoomFor (entries_text n w row.now) self.old }
-        ensures { Appended (entries_text n w row.now) self.old self.new }
+    fn put_entries(&mut self, row: &[u32], w: usize)
+        requires { (0 < w) × RoomFor (entries_text (length row.now / w) w row.now) self.old }
+        ensures { Appended (entries_text (length row.now / w) w row.now) self.old self.new }
     {
-        for k in 0..n {
-            self.put_entry(words::part_at(row, k, w));
+        for entry in row.chunks_exact(w) {
+            self.put_entry(entry);
         }
     }
 
@@ -109,22 +109,22 @@ impl Writer<'_> {
         self.put_shifted(shifted);
     }
 
-    fn put_row(&mut self, i: usize, row: &[u32], n: usize, w: usize, d: u32)
-        requires { (i < n) × (n ≤ 8) × (w ≤ 256) × (length row.now ≡ n * w) × RoomFor (row_line n w d i row.now) self.old }
-        ensures { Appended (row_line n w d i row.now) self.old self.new }
+    fn put_row(&mut self, i: usize, row: &[u32], w: usize, d: u32)
+        requires { (i < 8) × (0 < w) × (w ≤ 256) × (i * w + w ≤ length row.now) × RoomFor (row_line (length row.now / w) w d i row.now) self.old }
+        ensures { Appended (row_line (length row.now / w) w d i row.now) self.old self.new }
     {
         let pivot = degree_of(words::part_at(row, i, w));
         self.put_degrees(i, pivot, ShiftedDegree::of(pivot, d));
-        self.put_entries(row, n, w);
+        self.put_entries(row, w);
         self.put(b"\n");
     }
 
-    fn put_rows(&mut self, n: usize, w: usize, d: &[u32], basis: &[u32])
-        requires { (n ≤ 8) × (w ≤ 256) × (length d.now ≡ n) × (length basis.now ≡ n * (n * w)) × RoomFor (row_lines n w d.now basis.now) self.old }
-        ensures { Appended (row_lines n w d.now basis.now) self.old self.new }
+    fn put_rows(&mut self, w: usize, d: &[u32], basis: &[u32])
+        requires { (length d.now ≤ 8) × (0 < w) × (w ≤ 256) × (length basis.now ≡ length d.now * (length d.now * w)) × RoomFor (row_lines (length d.now) w d.now basis.now) self.old }
+        ensures { Appended (row_lines (length d.now) w d.now basis.now) self.old self.new }
     {
         for (i, entry) in d.iter().enumerate() {
-            self.put_row(i, words::part_at(basis, i, n * w), n, w, *entry);
+            self.put_row(i, words::part_at(basis, i, d.len() * w), w, *entry);
         }
     }
 
@@ -162,7 +162,7 @@ impl Writer<'_> {
         ensures { Appended (basis_text of.p of.n of.s d.now basis.now least) self.old self.new }
     {
         self.put_heading(of, d);
-        self.put_rows(of.n as usize, of.s as usize + 1, d, basis);
+        self.put_rows(of.s as usize + 1, d, basis);
         self.put_numbered(b"least", least);
     }
 }

@@ -14,8 +14,12 @@ put_rows-requires c = search (pieces, arith)
 
 pub put_numbered-requires : goal.put_numbered-requires
 unfolding basis_text
-put_numbered-requires c = search pieces
+put_numbered-requires c =
+    let rows = rw c.requires.2 at c.put_rows.ensures in
+    search pieces
 
 pub returns : goal.returns
 unfolding basis_text
-returns c = search pieces
+returns c =
+    let rows = rw c.requires.2 at c.put_rows.ensures in
+    search pieces

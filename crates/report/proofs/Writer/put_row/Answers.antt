@@ -1,14 +1,14 @@
 -- `put_row` meets its contract: the line at the degree of the row's own entry.
 use mathlib.Core.Path.{◌≡◌, ap, ◌∙◌}
 use mathlib.Core.List.{List, ◌++◌}
-use Prim.Native.Nat.{ℕ, ◌≤◌}
+use Prim.Native.Nat.{ℕ, ◌/◌, ◌≤◌}
 use native.Mathlib.Omega.{arith}
 use lib.IntN.{ℤ, pos, ◌-ℤ◌}
 use lib.ListN.{length}
 use Rattle.sizes.specs.Entry.{entry_of}
 use Rattle.report.specs.Entry.{degree}
 use Rattle.words.specs.Part.{part}
-use Rattle.words.proofs.Part.{part_fits, part_length}
+use Rattle.words.proofs.Part.{part_length}
 use Rattle.report.specs.Text.{entries_text, shifted_degree, degrees, pivot_line, row_line}
 use Rattle.report.specs.Words.{line}
 use Rattle.report.proofs.Entry.{trim_short}
@@ -29,10 +29,10 @@ pub of-requires : goal.of-requires
 of-requires c =
     let a = c.args in
     let e = c.degree_of-pivot.ensures ∙ ap degree c.part_at.ensures in
-    let short = part_length a.w a.i a.row.now (omega (arith, part_fits a.n a.w a.i (omega arith))) in
+    let short = part_length a.w a.i a.row.now c.requires.3 in
     omega (arith, e, degree_short (part a.w a.i a.row.now), short)
 
-the_line : (c : After-of) → let a = c.args in row_line a.n a.w a.d a.i a.row.now ≡ degrees c.degree_of-pivot.result.0 c.of.result.0 a.i ++ entries_text a.n a.w a.row.now ++ line
+the_line : (c : After-of) → let a = c.args in row_line (length a.row.now / a.w) a.w a.d a.i a.row.now ≡ degrees c.degree_of-pivot.result.0 c.of.result.0 a.i ++ entries_text (length a.row.now / a.w) a.w a.row.now ++ line
 the_line c = at_degrees _ _ _ _ _ _ _ (c.degree_of-pivot.ensures ∙ ap degree c.part_at.ensures) c.of.ensures
 
 pub put_degrees-requires : goal.put_degrees-requires
