@@ -1,7 +1,5 @@
 -- Faults of blocks in turn: how a scan finds the first, and that there is none exactly where each block has its number and is sound.
-use Rattle.std.proofs.Common.{◌≡◌, ℕ, zero, suc, ◌+◌, ◌-◌, ◌*◌, ◌<◌, ◌≤◌, Bool, true, false, not, ◌≢◌, ◌↔◌, List, take, drop, sym, ◌∙◌, add-zero, arith, drop-drop}
-use mathlib.Core.Bool.{false≢true}
-use borrow.Author.Tests.{not-true, not-false}
+use Rattle.std.proofs.Common.{◌≡◌, ℕ, zero, suc, ◌+◌, ◌-◌, ◌*◌, ◌<◌, ◌≤◌, ◌≢◌, List, take, drop, ◌∙◌, add-zero, arith, drop-drop}
 use native.Mathlib.Nat.{sub-zero}
 use Rattle.field.specs.declared.Tested.{Tested}
 use Rattle.field.specs.Refusal.{Order, NoTest}
@@ -12,13 +10,6 @@ use Rattle.block.specs.Read.{number_of, Sound}
 use Rattle.block.specs.Part.{block_at}
 use Rattle.block.specs.Fault.{faults}
 use Rattle.block.proofs.File.{block_next}
-
--- a test that was negated: it failed, or it held
-pub said_no : {P : Type 0} (r : Bool) → (r ≡ true) ↔ P → not r ≡ true → ¬ P
-said_no r i n p = false≢true (sym (not-true r n) ∙ i.1 p)
-
-pub said_yes : {P : Type 0} (r : Bool) → (r ≡ true) ↔ P → not r ≡ false → P
-said_yes r i n = i.0 (not-false r n)
 
 module _ (b m : ℕ) (l : List ℕ) where
   pub number_wrong : number_of (take 512 l) ≢ b → Tests (faults b (suc m) l) (Tested.Refused 9)

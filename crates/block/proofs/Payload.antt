@@ -1,6 +1,9 @@
 -- Parts of a file's payload: their length and words, and whether some word of one has a property.
 use Rattle.std.proofs.Common.{◌≡◌, ℕ, ◌+◌, ◌<◌, ◌≤◌, Bool, true, false, ◌≢◌, ◌↔◌, List, length, get_or, arith}
-use Rattle.field.proofs.Truth.{fails}
+use Rattle.std.specs.Bool.{MatchBool}
+use Rattle.std.specs.List.{range_with_len, HoldsAt, AllWithin}
+use Rattle.std.proofs.lemmas.List.FromFn.{length-range_with_len, get_or-range_with_len}
+use Rattle.field.proofs.Truth.{fails, shown, refuted}
 use Rattle.words.specs.Some.{Some}
 use Rattle.block.specs.Part.{payload_at, payload_part}
 use Rattle.block.proofs.Table.{length_up_to, get_d_up_to}
@@ -21,6 +24,18 @@ module _ (file : List ℕ) (from count : ℕ) where
   part_none Bad h f =
       let l : f.0 < count = rw length_part at f.1 in
       h f.0 l (rw (part_at f.0 l) at f.2)
+
+  -- where the range over their places was searched for one that is at least a bound
+  pub part_any : (bound : ℕ) (r : Bool)
+      → MatchBool r
+      ((k : ℕ) × (k < length (range_with_len from count)) × HoldsAt (λ k. bound ≤ payload_at file k) (range_with_len from count) k)
+      (AllWithin (λ k. payload_at file k < bound) (range_with_len from count) 0 (length (range_with_len from count)))
+      → (r ≡ true) ↔ Some (λ x. bound ≤ x) (payload_part file from count)
+  part_any bound true h =
+      let l : h.0 < count = rw length-range_with_len at h.1 in
+      shown (part_some (λ x. bound ≤ x) h.0 l (rw (get_or-range_with_len from count h.0 0 l) at (h.2 0)))
+  part_any bound false h =
+      refuted (part_none (λ x. bound ≤ x) (λ i l b. let m = rw (get_or-range_with_len from count i 0 l) at (h i 0 (omega arith) (rw length-range_with_len l)) in omega arith))
 
 -- a word that is at least 1 is one that is not zero
 pub spare_some : (l : List ℕ) → Some (λ x. 1 ≤ x) l → Some (λ x. x ≢ 0) l

@@ -1,6 +1,7 @@
 -- Words stored in bytes: the length stays, the stored word is read back, the others are as they were, and words stored one after the
 -- other are the bytes of their list.
-use Rattle.std.proofs.Common.{◌≡◌, ℕ, zero, suc, ◌+◌, ◌*◌, ◌<◌, ◌≤◌, ◌≢◌, List, [], ◌∷◌, length, take, refl, ap, ◌∙◌, suc-add, arith, length-set}
+use Rattle.std.proofs.Common.{◌≡◌, ℕ, zero, suc, ◌+◌, ◌-◌, ◌*◌, ◌/◌, ◌%◌, ◌<◌, ◌≤◌, ◌≢◌, List, [], ◌∷◌, ◌++◌, length, take, drop, set, refl, ap, ◌∙◌, suc-add, arith, length-set}
+use borrow.Rule.Slice.PartMut.{put_mid}
 use Rattle.block.specs.Word.{word_at}
 use Rattle.block.specs.Bytes.{bytes_of}
 use Rattle.block.specs.Store.{stored}
@@ -26,6 +27,20 @@ front (a ∷ []) h = absurd (omega arith)
 front (a ∷ b ∷ []) h = absurd (omega arith)
 front (a ∷ b ∷ c ∷ []) h = absurd (omega arith)
 front (a ∷ b ∷ c ∷ d ∷ l) h = record { a = a; b = b; c = c; d = d; rest = l; is = refl }
+
+-- four bytes written at once are the word stored
+four_set : (k a b c d : ℕ) (l : List ℕ) → k + 4 ≤ length l
+    → take k l ++ (a ∷ b ∷ c ∷ d ∷ drop 4 (drop k l)) ≡ set (set (set (set l k a) (k + 1) b) (k + 2) c) (k + 3) d
+four_set zero a b c d l h = let f = front l (omega arith) in rw f.is
+four_set (suc k) a b c d [] h = absurd (omega arith)
+four_set (suc k) a b c d (x ∷ l) h = simp suc-add (ap (λ (r : List ℕ). x ∷ r) (four_set k a b c d l (omega arith)))
+
+pub stored_at_once : (l x : List ℕ) (i w : ℕ) → 4 * i + 4 ≤ length l → x ≡ w % 256 ∷ w / 256 % 256 ∷ w / 65536 % 256 ∷ w / 16777216 % 256 ∷ []
+    → put_mid (4 * i) (4 * i + 4 - 4 * i) l x ≡ stored l i w
+unfolding stored
+stored_at_once l x i w h e =
+    let n : 4 * i + 4 - 4 * i ≡ 4 = omega arith in
+    rw (n, e) (four_set (4 * i) _ _ _ _ l h)
 
 stored_cons : (a b c d : ℕ) (l : List ℕ) (i w : ℕ) → stored (a ∷ b ∷ c ∷ d ∷ l) (suc i) w ≡ a ∷ b ∷ c ∷ d ∷ stored l i w
 unfolding stored

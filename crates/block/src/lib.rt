@@ -8,12 +8,14 @@
 ghost use Rattle.std.specs.Prelude.{◌≡◌, ◌+◌, ◌*◌, ◌/◌, ◌≤◌, true, ◌↔◌, length, slice_index};
 ghost use Rattle.block.specs.Word.{word_at};
 ghost use Rattle.block.specs.Store.{stored};
-ghost use Rattle.block.specs.Checks.{summed, checks_of};
+ghost use Rattle.block.specs.Checks.{added, summed, checks_of};
 ghost use Rattle.block.specs.Block.{block_of};
 ghost use Rattle.block.specs.Read.{number_of, Sound};
 ghost use Rattle.block.specs.Seal.{sealed};
 ghost use Rattle.block.specs.File.{blocks_of, blocks_for, file_of};
 ghost use Rattle.block.specs.Part.{blocks_in, payload_at, payload_part};
+ghost use Rattle.std.specs.Iterator.{IsFinite};
+ghost use Rattle.std.specs.Iterator.Runs.{WholeRun};
 ghost use Rattle.words.specs.Lent.{over};
 ghost use Rattle.block.specs.Length.{BadLength};
 ghost use Rattle.block.specs.Fault.{faults};
@@ -25,17 +27,22 @@ ghost use Rattle.words.specs.Some.{Some};
 use field::Tested;
 
 // Check A and check B.
-#[derive(Clone, Copy)]
+#[derive(Clone, Copy, PartialEq, Eq)]
 pub struct Checks {
     pub a: u32,
     pub b: u32,
 }
 
-// A byte as a word.
-fn wide(byte: u8) -> u32
-    ensures { (result ≡ byte) × (result ≤ 255) }
-{
-    byte as u32
+impl Checks {
+    // The checks of one word more: it is added to A, and then the new A to B.
+    #[tactic(auto, unfolding(crate::specs::Checks::added))]
+    fn added(self, word: u32) -> Checks
+        ensures { result ≡ added self word }
+    {
+        let a = self.a.wrapping_add(word);
+        let b = self.b.wrapping_add(a);
+        Checks { a, b }
+    }
 }
 
 // Word i of bytes.
@@ -44,11 +51,7 @@ fn word_at(bytes: &[u8], i: usize) -> u32
     ensures { result ≡ word_at bytes.now i }
 {
     let at = 4 * i;
-    let low = wide(bytes[at]);
-    let second = wide(bytes[at + 1]);
-    let third = wide(bytes[at + 2]);
-    let high = wide(bytes[at + 3]);
-    low + 256 * second + 65536 * third + 16777216 * high
+    u32::from_le_bytes([bytes[at], bytes[at + 1], bytes[at + 2], bytes[at + 3]])
 }
 
 // Makes w word i of bytes.
@@ -57,10 +60,16 @@ fn store_word(bytes: &mut [u8], i: usize, w: u32)
     ensures { bytes.new ≡ stored bytes.old i w }
 {
     let at = 4 * i;
-    bytes[at] = (w % 256) as u8;
-    bytes[at + 1] = (w / 256 % 256) as u8;
-    bytes[at + 2] = (w / 65536 % 256) as u8;
-    bytes[at + 3] = (w / 16777216 % 256) as u8;
+    bytes[at..at + 4].copy_from_slice(&w.to_le_bytes());
+}
+
+// The checks of words, added in turn.
+fn checks_over<I: Iterator<Item = u32>>(words: I) -> Checks
+    requires can { I.can_next words }
+    requires finite { IsFinite (I.remaining words) }
+    ensures { WholeRun I.next_gives words (λ p. result ≡ summed (poly p.items) (length p.items)) }
+{
+    words.fold(Checks { a: 1, b: 0 }, |checks, word| checks.added(word))
 }
 
 // The checks of a block's words 0 to 125.
@@ -68,31 +77,14 @@ pub fn checks_of(block: &[u8]) -> Checks
     requires { length block.now ≡ 512 }
     ensures { result ≡ checks_of (word_at block.now) }
 {
-    let mut a: u32 = 1;
-    let mut b: u32 = 0;
-    let mut i = 0;
-    while i < 126 {
-        let word = word_at(block, i);
-        a = std::num::wrapping_add_u32(a, word);
-        b = std::num::wrapping_add_u32(b, a);
-        i += 1;
-    }
-    Checks { a, b }
+    checks_over((0..126).map(|i| word_at(block, i)))
 }
 
 // The checks of any words, which sum them as those of a block do.
 pub fn sums_of(words: &[u32]) -> Checks
     ensures { result ≡ summed (poly words.now) (length words.now) }
 {
-    let mut sum: u32 = 1;
-    let mut sums: u32 = 0;
-    let mut i = 0;
-    while i < words.len() {
-        sum = std::num::wrapping_add_u32(sum, words[i]);
-        sums = std::num::wrapping_add_u32(sums, sum);
-        i += 1;
-    }
-    Checks { a: sum, b: sums }
+    checks_over(words.iter().copied())
 }
 
 // Writes a block's checks over what its words 126 and 127 were.
@@ -118,23 +110,11 @@ fn is_sound(block: &[u8]) -> bool
     requires { length block.now ≡ 512 }
     ensures { (result ≡ true) ↔ Sound block.now }
 {
-    let right = checks_of(block);
-    let a = right.a;
-    let b = right.b;
-    if word_at(block, 126) != a {
-        return false;
-    }
-    if word_at(block, 127) != b {
-        return false;
-    }
-    true
-}
-
-// Word i of words, zero past their end.
-fn word_or_zero(words: &[u32], i: usize) -> u32
-    ensures { result ≡ slice_index words.now i }
-{
-    if i < words.len() { words[i] } else { 0 }
+    let found = Checks {
+        a: word_at(block, 126),
+        b: word_at(block, 127),
+    };
+    found == checks_of(block)
 }
 
 // Writes a whole block. Its payload is the first 125 of the words, zero past their end.
@@ -143,10 +123,8 @@ fn write_block(block: &mut [u8], number: u32, words: &[u32])
     ensures { block.new ≡ block_of number words.now }
 {
     store_word(block, 0, number);
-    let mut i = 0;
-    while i < 125 {
-        store_word(block, i + 1, word_or_zero(words, i));
-        i += 1;
+    for i in 0..125 {
+        store_word(block, i + 1, words.get(i).copied().unwrap_or(0));
     }
     seal(block);
 }
@@ -156,7 +134,7 @@ fn blocks_for(count: usize) -> usize
     requires { count ≤ 4294967295 }
     ensures { result ≡ blocks_for count }
 {
-    (count + 124) / 125
+    count.div_ceil(125)
 }
 
 // Writes count blocks numbered from first, with 125 of the words in each, zero past their end.
@@ -166,12 +144,9 @@ fn write_blocks(out: &mut [u8], first: u32, count: usize, words: &[u32])
     requires words_enough { 125 * count ≤ length words.now + 125 }
     ensures { out.new ≡ blocks_of first count words.now }
 {
-    let mut b = 0;
-    while b < count {
+    for b in 0..count {
         let at = 512 * b;
-        let end = at + 512;
-        write_block(&mut out[at..end], first + b as u32, &words[125 * b..]);
-        b += 1;
+        write_block(&mut out[at..at + 512], first + b as u32, &words[125 * b..]);
     }
 }
 
@@ -182,8 +157,7 @@ pub fn write_file(words: &[u32], out: &mut [u8]) -> u32
     ensures { (result ≡ blocks_for (length words.now)) × (out.new ≡ over (file_of words.now) out.old) }
 {
     let blocks = blocks_for(words.len());
-    let end = 512 * blocks;
-    write_blocks(&mut out[..end], 0, blocks, words);
+    write_blocks(&mut out[..512 * blocks], 0, blocks, words);
     blocks as u32
 }
 
@@ -200,10 +174,8 @@ pub fn read_payload(file: &[u8], from: usize, out: &mut [u32])
     requires { from + length out.old ≤ 125 * blocks_in file.now }
     ensures { out.new ≡ payload_part file.now from (length out.old) }
 {
-    let mut i = 0;
-    while i < out.len() {
-        out[i] = payload_word(file, from + i);
-        i += 1;
+    for (i, word) in out.iter_mut().enumerate() {
+        *word = payload_word(file, from + i);
     }
 }
 
@@ -212,27 +184,14 @@ pub fn any_payload_from(file: &[u8], from: usize, count: usize, bound: u32) -> b
     requires { from + count ≤ 125 * blocks_in file.now }
     ensures { (result ≡ true) ↔ Some (λ x. bound ≤ x) (payload_part file.now from count) }
 {
-    let mut i = 0;
-    while i < count {
-        if payload_word(file, from + i) >= bound {
-            return true;
-        }
-        i += 1;
-    }
-    false
+    (from..from + count).any(|k| payload_word(file, k) >= bound)
 }
 
 // Whether no file of at most `largest` bytes has this length.
 pub fn is_bad_length(file: usize, largest: usize) -> bool
     ensures { (result ≡ true) ↔ BadLength largest file }
 {
-    if file == 0 {
-        return true;
-    }
-    if file % 512 != 0 {
-        return true;
-    }
-    file > largest
+    file == 0 || file % 512 != 0 || file > largest
 }
 
 // Tests count blocks in turn, which should be numbered from first.
@@ -241,18 +200,15 @@ pub fn test_blocks(file: &[u8], first: u32, count: usize) -> Tested
     requires numbers { first + count ≤ 4294967296 }
     ensures { Tests (faults first count file.now) result }
 {
-    let mut b = 0;
-    while b < count {
+    for b in 0..count {
         let at = 512 * b;
-        let end = at + 512;
-        let block = &file[at..end];
+        let block = &file[at..at + 512];
         if !is_numbered(block, first + b as u32) {
             return Tested::Refused(9);
         }
         if !is_sound(block) {
             return Tested::Refused(10);
         }
-        b += 1;
     }
     Tested::Passed
 }

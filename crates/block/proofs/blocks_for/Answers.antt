@@ -1,8 +1,8 @@
--- The quotient is the definition.
-use Rattle.std.proofs.Common.{refl}
+-- The quotient, rounded up, is the definition.
+use Rattle.std.proofs.Common.{arith}
 use Rattle.block.specs.File.{blocks_for}
 use Rattle.block.proofs.blocks_for.Goals as goal
 
 pub returns : goal.returns
 unfolding blocks_for
-returns c = refl
+returns c = omega (arith, c.div_ceil.ensures)

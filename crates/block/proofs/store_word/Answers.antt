@@ -1,17 +1,7 @@
--- `block::store_word` meets its contract: the four stores are the definition, and each index is below the length, which a store keeps.
-use Rattle.std.proofs.Common.{refl, arith, length-set}
-use Rattle.block.specs.Store.{stored}
+-- The four bytes are the word's.
+use Rattle.std.proofs.Common.{◌∙◌}
+use Rattle.block.proofs.Store.{stored_at_once}
 use Rattle.block.proofs.store_word.Goals as goal
 
-pub bounds-bytes-at-2 : goal.bounds-bytes-at-2
-bounds-bytes-at-2 c = simp length-set (omega arith)
-
-pub bounds-bytes-at-3 : goal.bounds-bytes-at-3
-bounds-bytes-at-3 c = simp length-set (omega arith)
-
-pub bounds-bytes-at-4 : goal.bounds-bytes-at-4
-bounds-bytes-at-4 c = simp length-set (omega arith)
-
 pub returns : goal.returns
-unfolding stored
-returns c = refl
+returns c = stored_at_once c.args.bytes.now c.copy_from_slice.new.self c.args.i c.args.w c.requires (c.copy_from_slice.ensures.after ∙ c.to_le_bytes.ensures)
