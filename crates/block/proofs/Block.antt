@@ -9,7 +9,6 @@ use Rattle.block.specs.Store.{stored}
 use Rattle.block.specs.Checks.{summed, checks_of}
 use Rattle.block.specs.Block.{up_to, body, with_checks, block_of}
 use Rattle.block.specs.Read.{number_of, Sound, payload_of}
-use Rattle.block.specs.Seal.{sealed}
 use Rattle.block.proofs.Sums.{checks_same, summed_below}
 use Rattle.block.proofs.Table.{length_up_to, get_d_up_to, up_to_same, up_to_get_d}
 use Rattle.block.proofs.Words.{length_bytes, word_bytes, bytes_words, words_nil, words_cons, words_append, words_up_to, words_part}
@@ -129,8 +128,9 @@ module _ (n : ℕ) (ps : List ℕ) (hn : n < 4294967296) (hp : Words ps) where
       }
 
   -- bytes that begin with the words of the block, with their checks made right
-  pub sealed_block : (l : List ℕ) → length l ≡ 512 → take (4 * 126) l ≡ bytes_of (up_to 126 (words n ps)) → sealed l ≡ block_of n ps
-  unfolding sealed block_of
+  pub sealed_block : (l : List ℕ) → length l ≡ 512 → take (4 * 126) l ≡ bytes_of (up_to 126 (words n ps))
+      → stored (stored l 126 (checks_of (word_at l)).a) 127 (checks_of (word_at l)).b ≡ block_of n ps
+  unfolding block_of
   sealed_block l e t =
       let w = words n ps in
       let at : (i : ℕ) → i < 126 → word_at l i ≡ w i =

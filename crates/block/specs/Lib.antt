@@ -3,7 +3,6 @@ pub mod Word
 pub mod Bytes
 pub mod Store
 pub mod Checks
-pub mod Seal
 pub mod Block
 pub mod Read
 pub mod File

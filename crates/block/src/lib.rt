@@ -11,7 +11,6 @@ ghost use Rattle.block.specs.Store.{stored};
 ghost use Rattle.block.specs.Checks.{added, summed, checks_of};
 ghost use Rattle.block.specs.Block.{block_of};
 ghost use Rattle.block.specs.Read.{number_of, Sound};
-ghost use Rattle.block.specs.Seal.{sealed};
 ghost use Rattle.block.specs.File.{blocks_of, blocks_for, file_of};
 ghost use Rattle.block.specs.Part.{blocks_in, payload_at, payload_part};
 ghost use Rattle.std.specs.Iterator.{IsFinite};
@@ -46,6 +45,7 @@ impl Checks {
 }
 
 // Word i of bytes.
+#[tactic(auto, unfolding(crate::specs::Word::word_at))]
 fn word_at(bytes: &[u8], i: usize) -> u32
     requires { 4 * i + 4 ≤ length bytes.now }
     ensures { result ≡ word_at bytes.now i }
@@ -63,7 +63,7 @@ fn store_word(bytes: &mut [u8], i: usize, w: u32)
     bytes[at..at + 4].copy_from_slice(&w.to_le_bytes());
 }
 
-// The checks of words, added in turn.
+// The checks of words: each is added to those of the words before it.
 fn checks_over<I: Iterator<Item = u32>>(words: I) -> Checks
     requires can { I.can_next words }
     requires finite { IsFinite (I.remaining words) }
@@ -72,12 +72,45 @@ fn checks_over<I: Iterator<Item = u32>>(words: I) -> Checks
     words.fold(Checks { a: 1, b: 0 }, |checks, word| checks.added(word))
 }
 
+// A block that is lent.
+#[derive(Clone, Copy)]
+struct LentBlock<'a> {
+    bytes: &'a [u8],
+    ghost whole: { length bytes.now ≡ 512 },
+}
+
+impl<'a> LentBlock<'a> {
+    fn number(self) -> u32
+        ensures { result ≡ number_of self.entry.bytes.now }
+    {
+        word_at(self.bytes, 0)
+    }
+
+    // The checks of its words 0 to 125.
+    fn checks(self) -> Checks
+        ensures { result ≡ checks_of (word_at self.entry.bytes.now) }
+    {
+        checks_over((0..126).map(|i| word_at(self.bytes, i)))
+    }
+
+    // Whether the checks that it holds are right.
+    fn is_sound(self) -> bool
+        ensures { (result ≡ true) ↔ Sound self.entry.bytes.now }
+    {
+        let held = Checks {
+            a: word_at(self.bytes, 126),
+            b: word_at(self.bytes, 127),
+        };
+        held == self.checks()
+    }
+}
+
 // The checks of a block's words 0 to 125.
 pub fn checks_of(block: &[u8]) -> Checks
     requires { length block.now ≡ 512 }
     ensures { result ≡ checks_of (word_at block.now) }
 {
-    checks_over((0..126).map(|i| word_at(block, i)))
+    LentBlock { bytes: block }.checks()
 }
 
 // The checks of any words, which sum them as those of a block do.
@@ -85,36 +118,6 @@ pub fn sums_of(words: &[u32]) -> Checks
     ensures { result ≡ summed (poly words.now) (length words.now) }
 {
     checks_over(words.iter().copied())
-}
-
-// Writes a block's checks over what its words 126 and 127 were.
-fn seal(block: &mut [u8])
-    requires { length block.old ≡ 512 }
-    ensures { block.new ≡ sealed block.old }
-{
-    let right = checks_of(block);
-    store_word(block, 126, right.a);
-    store_word(block, 127, right.b);
-}
-
-// Whether a block has this number.
-fn is_numbered(block: &[u8], number: u32) -> bool
-    requires { length block.now ≡ 512 }
-    ensures { (result ≡ true) ↔ (number_of block.now ≡ number) }
-{
-    word_at(block, 0) == number
-}
-
-// Whether a block's checks are right.
-fn is_sound(block: &[u8]) -> bool
-    requires { length block.now ≡ 512 }
-    ensures { (result ≡ true) ↔ Sound block.now }
-{
-    let found = Checks {
-        a: word_at(block, 126),
-        b: word_at(block, 127),
-    };
-    found == checks_of(block)
 }
 
 // Writes a whole block. Its payload is the first 125 of the words, zero past their end.
@@ -126,10 +129,13 @@ fn write_block(block: &mut [u8], number: u32, words: &[u32])
     for i in 0..125 {
         store_word(block, i + 1, words.get(i).copied().unwrap_or(0));
     }
-    seal(block);
+    let checks = checks_of(block);
+    store_word(block, 126, checks.a);
+    store_word(block, 127, checks.b);
 }
 
 // How many blocks count words take.
+#[tactic(auto, unfolding(crate::specs::File::blocks_for))]
 fn blocks_for(count: usize) -> usize
     requires { count ≤ 4294967295 }
     ensures { result ≡ blocks_for count }
@@ -144,6 +150,7 @@ fn write_blocks(out: &mut [u8], first: u32, count: usize, words: &[u32])
     requires words_enough { 125 * count ≤ length words.now + 125 }
     ensures { out.new ≡ blocks_of first count words.now }
 {
+    // `chunks_exact_mut` promises nothing of what the whole ends as, so each block is lent by its place.
     for b in 0..count {
         let at = 512 * b;
         write_block(&mut out[at..at + 512], first + b as u32, &words[125 * b..]);
@@ -162,6 +169,7 @@ pub fn write_file(words: &[u32], out: &mut [u8]) -> u32
 }
 
 // Word k of the payloads joined, of a file that is lent whole.
+#[tactic(auto, using(crate::proofs::File::payload_place))]
 pub fn payload_word(file: &[u8], k: usize) -> u32
     requires { 512 * (k / 125) + 512 ≤ length file.now }
     ensures { result ≡ payload_at file.now k }
@@ -202,11 +210,13 @@ pub fn test_blocks(file: &[u8], first: u32, count: usize) -> Tested
 {
     for b in 0..count {
         let at = 512 * b;
-        let block = &file[at..at + 512];
-        if !is_numbered(block, first + b as u32) {
+        let block = LentBlock {
+            bytes: &file[at..at + 512],
+        };
+        if block.number() != first + b as u32 {
             return Tested::Refused(9);
         }
-        if !is_sound(block) {
+        if !block.is_sound() {
             return Tested::Refused(10);
         }
     }

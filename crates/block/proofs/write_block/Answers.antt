@@ -1,5 +1,5 @@
 -- The first i + 1 words stand in the block. The checks are then made of the words that stand there.
-use Rattle.std.proofs.Common.{◌≡◌, ◌∙◌, get_or, rules, arith}
+use Rattle.std.proofs.Common.{◌≡◌, get_or, rules, arith}
 use Rattle.block.proofs.Block.{begun, filled, sealed_block}
 use Rattle.block.proofs.write_block.Goals as goal
 
@@ -17,6 +17,7 @@ pub returns : goal.returns
 returns c =
     let loop = c.loop-i in
     let e : loop.i ≡ 125 = omega arith in
-    c.seal.ensures
-    ∙ sealed_block c.args.number c.args.words.now c.ranges.number.fits (λ j. (c.type_inv.words j).fits)
-    loop.block (omega arith) (rw e at loop.invariant)
+    let whole =
+    sealed_block c.args.number c.args.words.now c.ranges.number.fits (λ j. (c.type_inv.words j).fits)
+    loop.block (omega arith) (rw e at loop.invariant) in
+    cc whole

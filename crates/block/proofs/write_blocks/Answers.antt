@@ -1,5 +1,5 @@
 -- The first b blocks stand in the buffer.
-use Rattle.std.proofs.Common.{◌≡◌, ◌*◌, sym, refl, ap, ◌∙◌, ℕ, arith, take_all}
+use Rattle.std.proofs.Common.{refl}
 use Rattle.block.proofs.File.{blocks_written}
 use Rattle.block.specs.File.{blocks_of}
 use Rattle.block.proofs.write_blocks.Goals as goal
@@ -12,10 +12,3 @@ pub loop-b-preserved : goal.loop-b-preserved
 loop-b-preserved c =
     let loop = c.loop-b in
     blocks_written c.args.first loop.b c.args.words.now loop.out _ _ loop.invariant c.write_block.ensures
-
-pub returns : goal.returns
-returns c =
-    let loop = c.loop-b in
-    let args = c.args in
-    let e : loop.b ≡ args.count = omega arith in
-    sym (take_all (512 * loop.b) loop.out (omega arith)) ∙ loop.invariant ∙ ap (λ (m : ℕ). blocks_of args.first m args.words.now) e

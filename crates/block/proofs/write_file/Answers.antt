@@ -1,10 +1,7 @@
 -- Just enough blocks for the words are those of their file.
-use Rattle.std.proofs.Common.{length, sym, arith, length-take-le}
+use Rattle.std.proofs.Common.{length, arith, length-take-le}
 use Rattle.block.proofs.File.{blocks_close, file_over}
 use Rattle.block.proofs.write_file.Goals as goal
-
-pub slice_bounds-write_blocks-end-2 : goal.slice_bounds-write_blocks-end-2
-slice_bounds-write_blocks-end-2 c = sym (length-take-le _ _ (omega (arith, c.blocks_for-blocks.ensures)))
 
 pub write_blocks-requires : goal.write_blocks-requires
 write_blocks-requires c =
