@@ -3,16 +3,20 @@ use mathlib.Core.Path.{◌≡◌, subst}
 use mathlib.Core.List.{List}
 use Prim.Native.Nat.{ℕ, ◌-◌, ◌≤◌, ◌<◌}
 use lib.ListN.{take, drop}
-use Rattle.tokens.specs.declared.Taken.{Taken}
+use Rattle.std.specs.Prelude.{Result, Ok, Err}
+use Rattle.tokens.specs.declared.End.{End}
+use Rattle.tokens.specs.declared.Position.{Position}
+use Rattle.tokens.specs.declared.Word.{Word}
 use Rattle.tokens.specs.Tokens.{text_end, word, rest}
-use Rattle.tokens.specs.Taking.{Position, TakesWord}
+use Rattle.tokens.specs.Taking.{IsPosition, TakesWord}
 
-module _ (text : List ℕ) (at line : ℕ) {r : Taken} where
-  pub took_word : {from to l : ℕ} → r ≡ Taken.Word from to l → TakesWord text at line r
-      → (at ≤ from) × (from < to) × Position text to l × (rest text at line ≡ word l (take (to - from) (drop from text)) (rest text to l))
+module _ (text : List ℕ) (p : Position) {r : Result Word End} where
+  pub took_word : {w : Word} → r ≡ Ok w → TakesWord text p r
+      → (p.at ≤ w.from) × (w.from < w.to) × IsPosition text (record { at = w.to; line = w.line })
+      × (rest text p.at p.line ≡ word w.line (take (w.to - w.from) (drop w.from text)) (rest text w.to w.line))
   unfolding TakesWord
-  took_word e h = subst (TakesWord text at line) e h
+  took_word e h = subst (TakesWord text p) e h
 
-  pub took_end : {l : ℕ} → r ≡ Taken.End l → TakesWord text at line r → rest text at line ≡ text_end l
+  pub took_end : {e : End} → r ≡ Err e → TakesWord text p r → rest text p.at p.line ≡ text_end e.line
   unfolding TakesWord
-  took_end e h = subst (TakesWord text at line) e h
+  took_end e h = subst (TakesWord text p) e h

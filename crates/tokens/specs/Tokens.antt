@@ -1,6 +1,6 @@
 -- Tokens: the words of a text, each with the number of its line, counted from 1, and the line on which the text ends.
 -- Words are separated by spaces, tabs, carriage returns and new lines; `#` begins a comment, which ends before the next new line.
-use Rattle.std.specs.Prelude.{true, false, cond, List, [], ◌∷◌, ◌++◌, ℕ, suc, eqb, drop}
+use Rattle.std.specs.Prelude.{Bool, true, false, cond, List, [], ◌∷◌, ◌++◌, ℕ, suc, eqb, drop}
 use Rattle.tokens.specs.declared.Class.{Class}
 
 pub data Tokens : Type 0 where
@@ -11,6 +11,13 @@ pub data Tokens : Type 0 where
 unfoldable pub class_of : ℕ → Class
 class_of b =
     cond (eqb b 10) Class.Newline (cond (eqb b 35) Class.Hash (cond (eqb b 32) Class.Blank (cond (eqb b 9) Class.Blank (cond (eqb b 13) Class.Blank Class.Other))))
+
+-- a byte of this class stands behind a word
+abbrev pub ends : Class → Bool
+ends Class.Newline = true
+ends Class.Hash = true
+ends Class.Blank = true
+ends Class.Other = false
 
 -- where a scan stands: between words, in a comment, or in a word of which it has passed these bytes
 pub data Standing : Type 0 where

@@ -1,13 +1,13 @@
 // The words of a text, each with its line, and a word read as a number: what the readers of texts share.
 #![tactic(auto)]
 
-ghost use Rattle.std.specs.Prelude.{◌≡◌, ℕ, ◌+◌, ◌*◌, ◌-◌, ◌^◌, ◌<◌, ◌≤◌, length, get_or, take, drop};
-ghost use Rattle.tokens.specs.Tokens.{class_of, scan, comment, word, rest};
+ghost use Rattle.std.specs.Prelude.{◌≡◌, ℕ, ◌+◌, ◌-◌, ◌<◌, ◌≤◌, length, get_or, take, drop};
+ghost use Rattle.tokens.specs.Tokens.{class_of, ends, scan, comment, word, rest};
 ghost use Rattle.tokens.specs.Number.{numeral_of, numeral_from};
-ghost use Rattle.tokens.specs.Taking.{Position, TakesWord};
+ghost use Rattle.tokens.specs.Taking.{IsPosition, TakesWord};
 
 // What a byte is to the scan.
-#[derive(Clone, Copy)]
+#[derive(Clone, Copy, Debug, PartialEq, Eq)]
 pub enum Class {
     Newline,
     Hash,
@@ -15,52 +15,44 @@ pub enum Class {
     Other,
 }
 
-// A word read as a number.
-#[derive(Clone, Copy)]
-pub enum Numeral {
-    Is(u32),
+// Why a word is no number of 32 bits.
+#[derive(Clone, Copy, Debug, PartialEq, Eq)]
+pub enum NumeralError {
     NotNumber,
     TooLarge,
 }
 
-#[derive(Clone, Copy)]
-struct Place {
+// A place in a text, and its line.
+#[derive(Clone, Copy, Debug, PartialEq, Eq)]
+pub struct Position {
     pub at: usize,
     pub line: usize,
 }
 
-// The next word, as a part of the text, with its line; or the line on which the text ends.
-#[derive(Clone, Copy)]
-pub enum Taken {
-    Word { from: usize, to: usize, line: usize },
-    End { line: usize },
+// A word, as a part of the text, with its line.
+#[derive(Clone, Copy, Debug, PartialEq, Eq)]
+pub struct Word {
+    pub from: usize,
+    pub to: usize,
+    pub line: usize,
 }
 
-fn wide(x: u8) -> u64
-    ensures { result ≡ x }
-{
-    x as u64
+// No word follows: the line on which the text ends.
+#[derive(Clone, Copy, Debug, PartialEq, Eq)]
+pub struct End {
+    pub line: usize,
 }
 
+#[tactic(auto, unfolding(crate::specs::Tokens::class_of))]
 fn class_of(b: u8) -> Class
     ensures { result ≡ class_of b }
 {
-    if b == 10 {
-        return Class::Newline;
+    match b {
+        b'\n' => Class::Newline,
+        b'#' => Class::Hash,
+        b' ' | b'\t' | b'\r' => Class::Blank,
+        _ => Class::Other,
     }
-    if b == 35 {
-        return Class::Hash;
-    }
-    if b == 32 {
-        return Class::Blank;
-    }
-    if b == 9 {
-        return Class::Blank;
-    }
-    if b == 13 {
-        return Class::Blank;
-    }
-    Class::Other
 }
 
 // The end of a comment: the next new line, or the end of the text.
@@ -68,14 +60,14 @@ pub fn line_end(text: &[u8], at: usize) -> usize
     requires { at ≤ length text.now }
     ensures { (at ≤ result) × (result ≤ length text.now) × ((l : ℕ) → scan comment l (drop at text.now) ≡ rest text.now result l) }
 {
-    let mut end = at;
-    while end < text.len() {
-        if text[end] == 10 {
-            return end;
-        }
-        end += 1;
-    }
-    end
+    let rest = &text[at..];
+    at + rest.iter().position(|b| *b == b'\n').unwrap_or(rest.len())
+}
+
+fn ends_word(b: u8) -> bool
+    ensures { result ≡ ends (class_of b) }
+{
+    class_of(b) != Class::Other
 }
 
 // The end of the word that begins here: the next byte that is none of a word, or the end of the text.
@@ -83,115 +75,69 @@ fn word_end(text: &[u8], at: usize) -> usize
     requires { (at < length text.now) × (class_of (get_or text.now at 0) ≡ Class.Other) }
     ensures { (at < result) × (result ≤ length text.now) × ((l : ℕ) → rest text.now at l ≡ word l (take (result - at) (drop at text.now)) (rest text.now result l)) }
 {
-    let mut end = at;
-    while end < text.len() {
-        match class_of(text[end]) {
-            Class::Other => {
-                end += 1;
-            }
-            Class::Newline => {
-                return end;
-            }
-            Class::Hash => {
-                return end;
-            }
-            Class::Blank => {
-                return end;
-            }
-        }
-    }
-    end
+    let rest = &text[at..];
+    at + rest
+        .iter()
+        .position(|b| ends_word(*b))
+        .unwrap_or(rest.len())
 }
 
 // Past blanks, new lines and comments.
-fn skip(text: &[u8], at: usize, line: usize) -> Place
-    requires { Position text.now at line }
-    ensures { (at ≤ result.at) × Position text.now result.at result.line × (rest text.now at line ≡ rest text.now result.at result.line) × (result.at < length text.now → class_of (get_or text.now result.at 0) ≡ Class.Other) }
+fn skip(text: &[u8], start: Position) -> Position
+    requires { IsPosition text.now start }
+    ensures { (start.at ≤ result.at) × IsPosition text.now result × (rest text.now start.at start.line ≡ rest text.now result.at result.line) × (result.at < length text.now → class_of (get_or text.now result.at 0) ≡ Class.Other) }
 {
-    let mut here = at;
-    let mut count = line;
-    while here < text.len() {
-        match class_of(text[here]) {
+    let mut here = start;
+    // No `for`: a comment moves the place by more than one.
+    while here.at < text.len() {
+        match class_of(text[here.at]) {
             Class::Newline => {
-                count += 1;
-                here += 1;
+                here.line += 1;
+                here.at += 1;
             }
-            Class::Blank => {
-                here += 1;
-            }
-            Class::Hash => {
-                here = line_end(text, here + 1);
-            }
-            Class::Other => {
-                return Place {
-                    at: here,
-                    line: count,
-                };
-            }
+            Class::Blank => here.at += 1,
+            Class::Hash => here.at = line_end(text, here.at + 1),
+            Class::Other => return here,
         }
     }
-    Place {
-        at: here,
-        line: count,
-    }
+    here
 }
 
-// One digit more; a number that is too large stays so.
-fn with_digit(value: u64, digit: u8) -> u64
-    ensures { (value < 2 ^ 32 → result ≡ value * 10 + digit) × (2 ^ 32 ≤ value → result ≡ value) }
-{
-    if value <= 4294967295 {
-        value * 10 + wide(digit)
-    } else {
-        value
-    }
-}
-
-// What the bytes say after no digit yet.
-fn read_digits(word: &[u8]) -> Numeral
+// What the bytes say after no digit yet. A number that is too large stays so, whatever digits follow.
+fn read_digits(word: &[u8]) -> Result<u32, NumeralError>
     ensures { result ≡ numeral_from 0 word.now }
 {
     let mut value: u64 = 0;
-    let mut k = 0;
-    while k < word.len() {
-        let b = word[k];
-        if b < 48 {
-            return Numeral::NotNumber;
+    for b in word {
+        if !b.is_ascii_digit() {
+            return Err(NumeralError::NotNumber);
         }
-        if b > 57 {
-            return Numeral::NotNumber;
+        if value <= u64::from(u32::MAX) {
+            value = value * 10 + u64::from(*b - b'0');
         }
-        value = with_digit(value, b - 48);
-        k += 1;
     }
-    if value < 4294967296 {
-        Numeral::Is(value as u32)
-    } else {
-        Numeral::TooLarge
-    }
+    u32::try_from(value).map_err(|_| NumeralError::TooLarge)
 }
 
-pub fn read_numeral(word: &[u8]) -> Numeral
+pub fn read_numeral(word: &[u8]) -> Result<u32, NumeralError>
     ensures { result ≡ numeral_of word.now }
 {
-    if word.len() == 0 {
-        Numeral::NotNumber
+    if word.is_empty() {
+        Err(NumeralError::NotNumber)
     } else {
         read_digits(word)
     }
 }
 
-pub fn take_word(text: &[u8], at: usize, line: usize) -> Taken
-    requires { Position text.now at line }
-    ensures { TakesWord text.now at line result }
+pub fn take_word(text: &[u8], position: Position) -> Result<Word, End>
+    requires { IsPosition text.now position }
+    ensures { TakesWord text.now position result }
 {
-    let here = skip(text, at, line);
-    let from = here.at;
-    let on = here.line;
+    let Position { at: from, line } = skip(text, position);
     if from < text.len() {
         let to = word_end(text, from);
-        Taken::Word { from, to, line: on }
+        Ok(Word { from, to, line })
     } else {
-        Taken::End { line: on }
+        Err(End { line })
     }
 }

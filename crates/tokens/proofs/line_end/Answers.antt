@@ -1,23 +1,18 @@
 -- `line_end` meets its contract: what was passed is the comment's.
-use mathlib.Core.Path.{refl, ◌∙◌}
-use native.Mathlib.Omega.{arith}
-use Rattle.tokens.proofs.Scan.{comment_turn, comment_stop, comment_past}
+use mathlib.Core.Path.{ap}
+use Prim.Native.Nat.{ℕ, ◌+◌}
+use lib.Dec.{eqb}
+use borrow.Author.Tests.{tests}
+use Rattle.std.proofs.Common.{rules, length, take, drop, ◌-◌}
+use Rattle.std.proofs.lemmas.Iterator.{YieldsList-from_slice}
+use Rattle.std.proofs.lemmas.Iterator.Search.{position_from_yields_List}
+use Rattle.tokens.proofs.Found.{stops_at}
+use Rattle.tokens.proofs.Scan.{comment_passed}
 use Rattle.tokens.proofs.line_end.Goals as goal
-
-pub loop-end-init : goal.loop-end-init
-loop-end-init c = (omega arith, omega arith, λ l. refl)
-
-pub returns-then-text-end-eq10 : goal.returns-then-text-end-eq10
-returns-then-text-end-eq10 c =
-    let i = c.loop-end in
-    (i.invariant.0, i.invariant.1, λ l. i.invariant.2 l ∙ comment_stop _ i.end (omega arith) l c.if-text-end-eq10.true)
-
-pub loop-end-preserved : goal.loop-end-preserved
-loop-end-preserved c =
-    let i = c.loop-end in
-    (omega arith, omega arith, λ l. i.invariant.2 l ∙ comment_turn _ i.end (omega arith) l c.if-text-end-eq10.false)
 
 pub returns : goal.returns
 returns c =
-    let i = c.loop-end in
-    (i.invariant.0, i.invariant.1, λ l. i.invariant.2 l ∙ comment_past _ i.end (omega arith) l)
+    let text = c.args.text.now in
+    let at = c.args.at in
+    let found = position_from_yields_List (λ (b : ℕ). eqb b 10) _ _ c.position.result c.position.ensures.ran (YieldsList-from_slice (take (length text - at) (drop at text)) cc) (λ x b q k. search (rules, tests)) in
+    comment_passed text at _ c.requires (ap (λ (n : ℕ). at + n) (stops_at _ text at found c.unwrap_or.ensures))

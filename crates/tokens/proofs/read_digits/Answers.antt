@@ -1,37 +1,25 @@
 -- `read_digits` meets its contract: the number so far, and what is left of the word.
-use mathlib.Core.Path.{refl, sym, ◌∙◌}
+use mathlib.Core.Path.{sym, ◌∙◌}
 use native.Mathlib.Omega.{arith}
-use Rattle.tokens.proofs.Number.{low_stop, high_stop, digit_turn, digit_bound, fits, too_large, last}
+use Rattle.std.proofs.Common.{rules}
+use Rattle.tokens.proofs.Number.{stop, digit_turn, converted, last}
 use Rattle.tokens.proofs.read_digits.Goals as goal
+use Rattle.tokens.proofs.read_digits.Goals.{then-value-from, else-value-from}
 
-pub loop-k-init : goal.loop-k-init
-loop-k-init c = (omega arith, omega arith, refl)
+pub returns-then-not-is_ascii_digit : goal.returns-then-not-is_ascii_digit
+returns-then-not-is_ascii_digit c = let h = c.if-not-is_ascii_digit.ensures.cases in sym (c.loop-b.invariant.1 ∙ stop _ c.loop-b.b-index c.loop-b.value c.loop-b-test.true h)
 
-pub returns-then-b-lt48 : goal.returns-then-b-lt48
-returns-then-b-lt48 c =
-    let i = c.loop-k in
-    sym (i.invariant.2 ∙ low_stop _ i.k i.value (omega arith) c.if-b-lt48.true)
+pub loop-b-preserved : goal.loop-b-preserved
+loop-b-preserved c =
+    let i = c.loop-b in
+    let h = c.if-not-is_ascii_digit.ensures.cases in
+    elim c.if-value-from.branch [
+      | then-value-from w ↦ (omega arith, i.invariant.1 ∙ digit_turn _ i.b-index i.value c.loop-b-test.true _ h.0 h.1 (λ l. omega arith) (λ l. omega arith))
+      | else-value-from w ↦ (omega arith, i.invariant.1 ∙ digit_turn _ i.b-index i.value c.loop-b-test.true _ h.0 h.1 (λ l. omega arith) (λ l. omega arith))
+    ]
 
-pub returns-then-b-gt57 : goal.returns-then-b-gt57
-returns-then-b-gt57 c =
-    let i = c.loop-k in
-    sym (i.invariant.2 ∙ high_stop _ i.k i.value (omega arith) c.if-b-gt57.true)
-
-pub loop-k-preserved : goal.loop-k-preserved
-loop-k-preserved c =
-    let i = c.loop-k in
-    let d = c.with_digit-value.ensures in (
-      omega arith,
-      digit_bound i.value _ _ (omega arith) i.invariant.1 d.0 d.1,
-      i.invariant.2 ∙ digit_turn _ i.k i.value (omega arith) _ c.if-b-lt48.false c.if-b-gt57.false d.0 d.1,
-    )
-
-pub returns-then-value-lt4294967296 : goal.returns-then-value-lt4294967296
-returns-then-value-lt4294967296 c =
-    let i = c.loop-k in
-    sym (i.invariant.2 ∙ last _ i.k i.value (omega arith) ∙ fits i.value c.if-value-lt4294967296.true)
-
-pub returns-else-value-lt4294967296 : goal.returns-else-value-lt4294967296
-returns-else-value-lt4294967296 c =
-    let i = c.loop-k in
-    sym (i.invariant.2 ∙ last _ i.k i.value (omega arith) ∙ too_large i.value c.if-value-lt4294967296.false)
+pub returns : goal.returns
+returns c =
+    let i = c.loop-b in
+    let read = converted i.value _ _ _ c.try_from.ensures c.map_err.ensures.cases (λ e n q. search rules) in
+    read ∙ sym (i.invariant.1 ∙ last _ i.b-index i.value c.loop-b-test.false)

@@ -1,44 +1,19 @@
 -- `word_end` meets its contract: what was passed is the word's.
-use mathlib.Core.Path.{◌≡◌, refl, sym, ◌∙◌}
-use mathlib.Core.Bool.{true}
-use mathlib.Core.List.{List}
-use Prim.Native.Nat.{ℕ, ◌-◌, ◌≤◌, ◌<◌}
+use mathlib.Core.Path.{ap}
+use Prim.Native.Nat.{ℕ, ◌+◌}
 use native.Mathlib.Omega.{arith}
-use lib.ListN.{length, get_or, take, drop}
-use Rattle.tokens.specs.declared.Class.{Class}
-use Rattle.tokens.specs.Tokens.{word, class_of, rest}
-use Rattle.tokens.proofs.Scan.{ends, rest_word, word_turn, word_begun, word_stop, word_past}
+use borrow.Author.Tests.{tests}
+use Rattle.std.proofs.Common.{rules, length, take, drop, ◌-◌}
+use Rattle.std.proofs.lemmas.Iterator.{YieldsList-from_slice}
+use Rattle.std.proofs.lemmas.Iterator.Search.{position_from_yields_List}
+use Rattle.tokens.specs.Tokens.{class_of, ends}
+use Rattle.tokens.proofs.Found.{stops_at}
+use Rattle.tokens.proofs.Scan.{word_passed}
 use Rattle.tokens.proofs.word_end.Goals as goal
-use Rattle.tokens.proofs.word_end.Invariants.{Passed}
-
--- at a byte of this class the word ends
-stopped : (text : List ℕ) (at end : ℕ) (k : Class) → class_of (get_or text at 0) ≡ Class.Other → end < length text → Passed text at end → class_of (get_or text end 0) ≡ k → ends k ≡ true
-    → (at < end) × (end ≤ length text) × ((l : ℕ) → rest text at l ≡ word l (take (end - at) (drop at text)) (rest text end l))
-stopped text at end k first h i here e = (word_begun text at end k i.0 first here e, i.1, λ l. i.2 l ∙ word_stop text end h l _ k here e)
-
-pub loop-end-init : goal.loop-end-init
-loop-end-init c = (omega arith, omega arith, λ l. let e : c.args.at - c.args.at ≡ 0 = omega arith in rest_word _ _ (omega arith) l c.requires.1 ∙ rw e)
-
-pub loop-end-preserved : goal.loop-end-preserved
-loop-end-preserved c =
-    let i = c.loop-end in
-    let at = c.args.at in
-    let other = sym c.class_of.ensures ∙ c.in-Other.is in
-    (omega arith, omega arith, λ l. i.invariant.2 l ∙ word_turn _ i.end (omega arith) at l i.invariant.0 other)
-
-pub returns-in-Newline : goal.returns-in-Newline
-returns-in-Newline c =
-    stopped c.args.text.now c.args.at c.loop-end.end _ c.requires.1 (omega arith) c.loop-end.invariant (sym c.class_of.ensures ∙ c.in-Newline.is) refl
-
-pub returns-in-Hash : goal.returns-in-Hash
-returns-in-Hash c =
-    stopped c.args.text.now c.args.at c.loop-end.end _ c.requires.1 (omega arith) c.loop-end.invariant (sym c.class_of.ensures ∙ c.in-Hash.is) refl
-
-pub returns-in-Blank : goal.returns-in-Blank
-returns-in-Blank c =
-    stopped c.args.text.now c.args.at c.loop-end.end _ c.requires.1 (omega arith) c.loop-end.invariant (sym c.class_of.ensures ∙ c.in-Blank.is) refl
 
 pub returns : goal.returns
 returns c =
-    let i = c.loop-end in
-    (omega arith, i.invariant.1, λ l. i.invariant.2 l ∙ word_past _ i.end (omega arith) l _)
+    let text = c.args.text.now in
+    let at = c.args.at in
+    let found = position_from_yields_List (λ (b : ℕ). ends (class_of b)) _ _ c.position.result c.position.ensures.ran (YieldsList-from_slice (take (length text - at) (drop at text)) cc) (λ x b q k. search (rules, tests)) in
+    word_passed text at _ (omega arith) c.requires.0 c.requires.1 (ap (λ (n : ℕ). at + n) (stops_at _ text at found c.unwrap_or.ensures))
