@@ -3,15 +3,13 @@ use mathlib.Core.Path.{◌≡◌, refl, sym, ◌∙◌}
 use mathlib.Core.List.{List, [], ◌∷◌}
 use Prim.Native.Nat.{ℕ, ◌<◌}
 use lib.ListN.{length, get_or, take}
+use Rattle.std.specs.Prelude.{Ok, Err}
 use Rattle.words.specs.Lent.{over}
 use Rattle.words.proofs.Over.{first_over}
 use Rattle.tokens.specs.Tokens.{tokens}
 use Rattle.tokens.specs.Number.{numeral_from, numeral_of}
 use Rattle.request.specs.declared.Slip.{Slip}
-use Rattle.request.specs.declared.Piece.{Piece}
-use Rattle.request.specs.declared.Listed.{Listed}
-use Rattle.request.specs.declared.Arguments.{Arguments}
-use Rattle.request.specs.Cut.{index_of, onto, pieces}
+use Rattle.request.specs.Cut.{pieces}
 use Rattle.request.specs.Drawn.{start, next, drawn}
 use Rattle.request.specs.Piece.{then_of, same_piece, drawn_of, repeated_of, piece_of}
 use Rattle.request.specs.Listed.{placed, piece_written, list_from, list_of}
@@ -19,7 +17,7 @@ use Rattle.request.specs.Arguments.{words_of, arguments_of}
 use Rattle.request.specs.Argument.{argument_of}
 use Rattle.request.proofs.WordsRead.{Read, read_none, argued, more_numbers}
 
-module _ (room places k : ℕ) (text : List ℕ) (h : (arguments_of room places text).says ≡ Arguments.Count k) where
+module _ (room places k : ℕ) (text : List ℕ) (h : (arguments_of room places text).says ≡ Ok k) where
   read : Read room (words_of (tokens text)) (arguments_of room places text).numbers (arguments_of room places text).ends × (k ≡ length (arguments_of room places text).ends)
   unfolding arguments_of
   read = argued room places [] [] [] (words_of (tokens text)) k (read_none room) h
@@ -28,7 +26,7 @@ module _ (room places k : ℕ) (text : List ℕ) (h : (arguments_of room places 
   pub arguments_read : (k ≡ length (words_of (tokens text)))
       × ((i : ℕ) → i < k
       → (argument_of (arguments_of room places text).numbers (arguments_of room places text).ends i ≡ (list_of room (get_or (words_of (tokens text)) i [])).numbers)
-      × ((list_of room (get_or (words_of (tokens text)) i [])).says ≡ Listed.Length (length (list_of room (get_or (words_of (tokens text)) i [])).numbers)))
+      × ((list_of room (get_or (words_of (tokens text)) i [])).says ≡ Ok (length (list_of room (get_or (words_of (tokens text)) i [])).numbers)))
   arguments_read = let c = read.1 ∙ read.0.count in (c, λ i b. read.0.each i (rw c at b))
 
   -- the arguments are the same in what was written over lent buffers
@@ -41,9 +39,9 @@ module _ (room places k : ℕ) (text : List ℕ) (h : (arguments_of room places 
 
 -- "6,0*2,1", "45%101*3" and "9*0"; and an empty piece
 pub worked :
-    (list_of 4 (54 ∷ 44 ∷ 48 ∷ 42 ∷ 50 ∷ 44 ∷ 49 ∷ []) ≡ record { numbers = 6 ∷ 0 ∷ 0 ∷ 1 ∷ []; says = Listed.Length 4 })
-    × (list_of 4 (52 ∷ 53 ∷ 37 ∷ 49 ∷ 48 ∷ 49 ∷ 42 ∷ 51 ∷ []) ≡ record { numbers = 32 ∷ 53 ∷ 0 ∷ []; says = Listed.Length 3 })
-    × (list_of 4 (57 ∷ 42 ∷ 48 ∷ []) ≡ record { numbers = []; says = Listed.Length 0 })
-    × (piece_of [] ≡ Piece.Wrong Slip.NotNumber)
-unfolding list_of list_from piece_written placed pieces onto piece_of repeated_of drawn_of same_piece then_of index_of numeral_of numeral_from start next drawn
+    (list_of 4 (54 ∷ 44 ∷ 48 ∷ 42 ∷ 50 ∷ 44 ∷ 49 ∷ []) ≡ record { numbers = 6 ∷ 0 ∷ 0 ∷ 1 ∷ []; says = Ok 4 })
+    × (list_of 4 (52 ∷ 53 ∷ 37 ∷ 49 ∷ 48 ∷ 49 ∷ 42 ∷ 51 ∷ []) ≡ record { numbers = 32 ∷ 53 ∷ 0 ∷ []; says = Ok 3 })
+    × (list_of 4 (57 ∷ 42 ∷ 48 ∷ []) ≡ record { numbers = []; says = Ok 0 })
+    × (piece_of [] ≡ Err Slip.NotNumber)
+unfolding list_of list_from piece_written placed pieces piece_of repeated_of drawn_of same_piece then_of numeral_of numeral_from start next drawn
 worked = (refl, refl, refl, refl)

@@ -8,9 +8,8 @@ use native.Mathlib.Omega.{arith}
 use lib.ListN.{length, get_or, drop, length-append, length-drop, get_or-append}
 use lib.Seq.{append_snoc, drop_at, drop-append-le, get_or-append_seam, take-append-le, take_all}
 use borrow.Author.Tests.{lt-ltb, le-ltb}
+use Rattle.std.specs.Prelude.{Result, Ok, Err}
 use Rattle.request.specs.declared.Slip.{Slip}
-use Rattle.request.specs.declared.Listed.{Listed}
-use Rattle.request.specs.declared.Arguments.{Arguments}
 use Rattle.request.specs.Listed.{list_of}
 use Rattle.request.specs.Arguments.{argue_from}
 use Rattle.request.specs.Argument.{start_of, argument_of}
@@ -18,7 +17,7 @@ use Rattle.request.proofs.Fitting.{list_length, list_fits}
 
 -- the word's list fits, and its numbers are l
 abbrev pub Lists : ℕ → List ℕ → List ℕ → Type 0
-Lists room w l = (l ≡ (list_of room w).numbers) × ((list_of room w).says ≡ Listed.Length (length (list_of room w).numbers))
+Lists room w l = (l ≡ (list_of room w).numbers) × ((list_of room w).says ≡ Ok (length (list_of room w).numbers))
 
 -- the numbers and ends of these words
 pub record Read (room : ℕ) (words : List (List ℕ)) (numbers ends : List ℕ) : Type 0 where
@@ -83,9 +82,6 @@ module _ (room : ℕ) (words : List (List ℕ)) (done ends : List ℕ) (before :
         (λ i h. (argument_before i h ∙ (before.each i h).0, (before.each i h).1)) (rw (← before.count) (argument_last ∙ lists.0, lists.1));
   }
 
-not_wrong : {slip : Slip} {k : ℕ} → Arguments.Wrong slip ≡ Arguments.Count k → ⊥
-not_wrong e = let z : ◌≡◌ {A = ℕ} 0 1 = cc in omega arith
-
 -- the word w of a line whose words are arguments
 module _ (room places : ℕ) (done ends w : List ℕ) (ws : List (List ℕ)) where
   abbrev list : List ℕ
@@ -94,24 +90,24 @@ module _ (room places : ℕ) (done ends w : List ℕ) (ws : List (List ℕ)) whe
   abbrev Turned : Type 0
   Turned = Lists room w list × (argue_from room places done ends (w ∷ ws) ≡ argue_from room places (done ++ list) (ends ++ ((length done + length list) ∷ [])) ws)
 
-  fitted : (n : ℕ) → length ends < places → (list_of (room - length done) w).says ≡ Listed.Length n → Turned
+  fitted : (n : ℕ) → length ends < places → (list_of (room - length done) w).says ≡ Ok n → Turned
   unfolding argue_from
   fitted n p e =
       let long = list_length (room - length done) w n e in
       (rw (list_fits (room - length done) room w n e (omega arith), long) (refl, e), rw (lt-ltb (length ends) places p, e, argue_from, long))
 
-  turned : (k : ℕ) → (argue_from room places done ends (w ∷ ws)).says ≡ Arguments.Count k → Turned
+  turned : (k : ℕ) → (argue_from room places done ends (w ∷ ws)).says ≡ Ok k → Turned
   unfolding argue_from
   turned k h = elim (dec_lt (length ends) places) [
     | yes p ↦ go p (list_of (room - length done) w).says refl
-    | no p ↦ absurd (not_wrong (rw (le-ltb (length ends) places (omega arith), argue_from) at h))
+    | no p ↦ (let e = rw (le-ltb (length ends) places (omega arith), argue_from) at h in cc)
   ]
     where
-      go : length ends < places → (says : Listed) → (list_of (room - length done) w).says ≡ says → Turned
-      go p (Listed.Length n) e = fitted n p e
-      go p (Listed.Wrong slip) e = absurd (not_wrong (rw (lt-ltb (length ends) places p, e, argue_from) at h))
+      go : length ends < places → (says : Result ℕ Slip) → (list_of (room - length done) w).says ≡ says → Turned
+      go p (Ok n) e = fitted n p e
+      go p (Err slip) e = let f = rw (lt-ltb (length ends) places p, e, argue_from) at h in cc
 
-pub argued : (room places : ℕ) (words : List (List ℕ)) (done ends : List ℕ) (ws : List (List ℕ)) (k : ℕ) → Read room words done ends → (argue_from room places done ends ws).says ≡ Arguments.Count k
+pub argued : (room places : ℕ) (words : List (List ℕ)) (done ends : List ℕ) (ws : List (List ℕ)) (k : ℕ) → Read room words done ends → (argue_from room places done ends ws).says ≡ Ok k
     → Read room (words ++ ws) (argue_from room places done ends ws).numbers (argue_from room places done ends ws).ends × (k ≡ length (argue_from room places done ends ws).ends)
 unfolding argue_from
 argued room places words done ends [] k before h = (rw append-nil before, cc)

@@ -4,8 +4,8 @@ use lib.ListN.{length}
 use Rattle.request.proofs.Argued.{Arguing}
 use Rattle.request.proofs.read_arguments.Given as goal
 
-abbrev pub invariant-loop-at : goal.invariant-loop-at
-invariant-loop-at l = Arguing l.text l.initial.values l.initial.ends l.values l.ends l.at l.line l.used l.count
+abbrev pub invariant-loop-word : goal.invariant-loop-word
+invariant-loop-word l = Arguing l.text l.initial.values l.initial.ends l.values l.ends l.here l.used l.count
 
-abbrev pub decreases-loop-at : goal.decreases-loop-at
-decreases-loop-at l = length l.text - l.at
+abbrev pub decreases-loop-word : goal.decreases-loop-word
+decreases-loop-word l = length l.text - l.here.at

@@ -1,11 +1,7 @@
--- `read_list` meets its contract: the pieces before the position are written.
-use Prim.Native.Nat.{◌+◌, ◌-◌}
+-- `read_list` meets its contract: the pieces so far are written.
 use lib.ListN.{length}
 use Rattle.request.proofs.Lists.{Reading}
 use Rattle.request.proofs.read_list.Given as goal
 
-abbrev pub invariant-loop-at : goal.invariant-loop-at
-invariant-loop-at l = Reading l.word l.initial.out l.out l.at l.used
-
-abbrev pub decreases-loop-at : goal.decreases-loop-at
-decreases-loop-at l = length l.word + 1 - l.at
+abbrev pub invariant-loop-part : goal.invariant-loop-part
+invariant-loop-part l = Reading l.word l.initial.out l.out (length l.yielded) l.used
