@@ -1,21 +1,22 @@
 -- A search among rows none of which is left out.
-use mathlib.Core.Path.{◌≡◌, subst}
+use mathlib.Core.Path.{◌≡◌, refl, subst}
 use mathlib.Core.Logic.{◌≢◌}
 use mathlib.Core.List.{List, [], ◌∷◌}
 use Prim.Native.Nat.{ℕ, zero, suc, ◌≤◌, ◌<◌}
 use native.Mathlib.Omega.{arith}
 use lib.ListN.{length, get_or}
-use Rattle.step.specs.declared.Found.{Found}
+use Rattle.std.specs.Prelude.{Option, None, Some, IsSome}
 use Rattle.step.specs.Search.{LeastAmong}
 
-pub least_of_all : (n : ℕ) (flag v : ℕ → ℕ) (r : Found) (i : ℕ) → LeastAmong n flag v r → r ≡ Found.Row i → ((l : ℕ) → l < n → flag l ≢ 0)
+pub least_of_all : (n : ℕ) (flag v : ℕ → ℕ) (r : Option ℕ) (i : ℕ) → LeastAmong n flag v r → r ≡ Some i → ((l : ℕ) → l < n → flag l ≢ 0)
     → (i < n) × ((l : ℕ) → l < n → v i ≤ v l)
 least_of_all n flag v r i h e nz =
     let f = subst (LeastAmong n flag v) e h in
     (f.row<, λ l hl. f.least l hl (nz l hl))
 
-pub never_nothing : (n : ℕ) (flag v : ℕ → ℕ) (r : Found) → LeastAmong n flag v r → r ≡ Found.Nothing → ((l : ℕ) → l < n → flag l ≢ 0) → 0 < n → ⊥
-never_nothing n flag v r h e nz hn = nz 0 hn (subst (LeastAmong n flag v) e h 0 hn)
+pub one_is_least : (n : ℕ) (flag v : ℕ → ℕ) (r : Option ℕ) → LeastAmong n flag v r → ((l : ℕ) → l < n → flag l ≢ 0) → 0 < n → IsSome r
+one_is_least n flag v None h nz hn = absurd (nz 0 hn (h 0 hn))
+one_is_least n flag v (Some i) h nz hn = refl
 
 -- the flags of a search among all rows
 abbrev pub ones : List ℕ

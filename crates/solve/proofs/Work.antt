@@ -1,9 +1,13 @@
 -- From the reduced basis by weights to document 01's words.
-use mathlib.Core.Path.{◌≡◌}
+use mathlib.Core.Path.{◌≡◌, refl, ◌∙◌}
 use mathlib.Core.List.{List}
-use Prim.Native.Nat.{ℕ, ◌+◌, ◌≤◌, ◌<◌}
+use Prim.Native.Nat.{ℕ, zero, suc, ◌+◌, ◌*◌, ◌≤◌, ◌<◌}
 use native.Mathlib.Omega.{arith}
-use lib.ListN.{length}
+use lib.ListN.{length, take}
+use native.Mathlib.Numerals.{add-one}
+use Rattle.std.specs.List.{sum_by}
+use Rattle.std.proofs.lemmas.List.Sums.{sum_by_more}
+use Rattle.degree.specs.declared.Degree.{Degree}
 use Rattle.field.specs.Prime.{Prime}
 use Rattle.relation.specs.Sum.{sum_to}
 use Rattle.relation.specs.Vector.{Vect}
@@ -14,7 +18,7 @@ use Rattle.relation.specs.Weight.{weight}
 use Rattle.relation.specs.ReducedBasis.{ReducedBasis}
 use Rattle.relation.proofs.Bridge.{basis→minimal, basis→reduced, basis→least}
 use Rattle.relation.proofs.Shrink.{basis→count}
-use Rattle.row.specs.View.{vector, row}
+use Rattle.row.specs.View.{vector, row, degree_at}
 use Rattle.step.specs.Offset.{TypeWords}
 use Rattle.sizes.specs.Entry.{type_of}
 use Rattle.sizes.specs.Lengths.{basis_length}
@@ -34,6 +38,17 @@ pub count_le : {p n : ℕ} {F : Vect} {s c : ℕ} → ShrinkCount p n F s c → 
 count_le none = omega arith
 count_le (smaller a x) = omega (arith, count_le x)
 count_le (same a x) = omega (arith, count_le x)
+
+-- the sum of the pivot degrees of n rows, and that it is small
+pub sum_of_tops : (n : ℕ) (tops : List Degree) → n ≤ length tops → sum_by (λ (t : Degree). t.0) (take n tops) ≡ sum_to n (degree_at tops)
+unfolding sum_to
+sum_of_tops zero tops h = refl
+sum_of_tops (suc n) tops h = rw (← add-one) (sum_by_more (λ (t : Degree). t.0) tops n (record { 0 = 0 }) (omega arith) ∙ rw (sum_of_tops n tops (omega arith)))
+
+pub sum_small : (n : ℕ) (e : ℕ → ℕ) → ((l : ℕ) → l < n → e l ≤ 255) → sum_to n e ≤ 255 * n
+unfolding sum_to
+sum_small zero e h = omega arith
+sum_small (suc n) e h = omega (arith, sum_small n e (λ l hl. h l (omega arith)), h n (omega arith))
 
 pub found_of : {p n s : ℕ} {d F xs : List ℕ} {B : ℕ} {b e : ℕ → ℕ} {i : ℕ} → Prime p → Offset n (type_of d) B b
     → ReducedBasis p n b (vector s F) s (row n (s + 1) xs) e → length xs ≡ basis_length n s

@@ -1,16 +1,13 @@
-// The reduced minimal basis of V_s, its least row and its count, on arguments that a call has tested: what every call with a basis shares.
+// The reduced minimal basis of V_s, its least row and its count, on a problem that a call has tested: what every call with a basis shares.
 #![tactic(auto)]
 
-ghost use Rattle.std.specs.Prelude.{◌≡◌, ℕ, ◌<◌, ◌≤◌, length};
-ghost use Rattle.relation.specs.Sum.{sum_to};
-ghost use Rattle.row.specs.View.{degree_at};
-ghost use Rattle.step.specs.Offset.{row_weight, TypeWords, TopsWithin};
-ghost use Rattle.solve.specs.Sizes.{Sizes};
+ghost use Rattle.std.specs.Prelude.{◌≡◌, ◌^◌, ◌<◌, ◌≤◌, length, sum_by};
+ghost use Rattle.sizes.specs.Lengths.{basis_length};
+ghost use Rattle.degree.specs.declared.Degree.{Degree as DegreeOf};
 ghost use Rattle.solve.specs.Found.{BasisFound};
 
 use degree::Degree;
-use field::Field;
-use step::Found;
+use step::Problem;
 
 // The least row, counted from 0, and how many orders made V smaller.
 #[derive(Clone, Copy)]
@@ -19,39 +16,21 @@ pub struct Solved {
     pub count: usize,
 }
 
-fn pivot_sum(tops: [Degree; 8], n: usize) -> usize
-    requires { (n ≤ 8) × TopsWithin n 255 tops }
-    ensures { result ≡ sum_to n (degree_at tops) }
+fn pivot_sum(tops: &[Degree]) -> usize
+    requires { sum_by (λ (t : DegreeOf). t.0) tops.now < 2 ^ 64 }
+    ensures { result ≡ sum_by (λ (t : DegreeOf). t.0) tops.now }
 {
-    let mut sum = 0;
-    let mut l = 0;
-    while l < n {
-        let top = tops[l];
-        sum += top.0;
-        l += 1;
-    }
-    sum
-}
-
-// The least of all n rows.
-fn least_of(tops: [Degree; 8], d: &[u32], n: usize) -> usize
-    requires { (1 ≤ n) × (n ≤ 8) × TypeWords n d.now × TopsWithin n 255 tops }
-    ensures { (result < n) × ((l : ℕ) → l < n → row_weight n d.now tops result ≤ row_weight n d.now tops l) }
-{
-    match step::least_row([1u32; 8], tops, d, n) {
-        Found::Row(i) => i,
-        Found::Nothing => 0,
-    }
+    tops.iter().map(|t| t.0).sum()
 }
 
 // Both are read off the pivot degrees of the basis that is written.
-pub fn solve(f: Field, n: usize, s: usize, d: &[u32], series: &[u32], out: &mut [u32]) -> Solved
-    requires { Sizes f.modulus n s d.now series.now (length out.old) }
-    ensures { BasisFound f.modulus n s d.now series.now out.new result.least result.count }
+pub fn solve(problem: Problem<'_>, out: &mut [u32]) -> Solved
+    requires { (1 ≤ problem.n) × (length out.old ≡ basis_length problem.n problem.s) }
+    ensures { BasisFound problem.entry.field.modulus problem.entry.n problem.entry.s problem.entry.d.now problem.entry.series.now out.new result.least result.count }
 {
-    let tops = step::reduced_basis(f, n, s, d, series, out);
+    let tops = step::reduced_basis(problem, out);
     Solved {
-        least: least_of(tops, d, n),
-        count: pivot_sum(tops, n),
+        least: step::least_row([1; 8], tops, problem.d, problem.n).unwrap(),
+        count: pivot_sum(&tops[..problem.n]),
     }
 }
