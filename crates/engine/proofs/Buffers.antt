@@ -4,6 +4,7 @@
 --   basis_one_way, approximant_one_way                and in exactly one way
 --   basis_count, approximant_count                    the count is s - m
 --   approximant_shifted, approximant_degrees          the approximant's row has shifted degree at most 0
+use Rattle.std.proofs.Common.{Ok}
 use mathlib.Core.Path.{◌≡◌, ap, sym, ◌∙◌}
 use mathlib.Core.Logic.{◌↔◌}
 use mathlib.Core.List.{List, [], ◌∷◌}
@@ -24,7 +25,6 @@ use Rattle.relation.proofs.Integer.{pos_le}
 use Rattle.relation.proofs.Theorems.{approximant_degree, approximant_entries}
 use Rattle.row.specs.View.{vector, row}
 use Rattle.solve.proofs.Found.{words_tell_relations, words_tell_numbers, relations_are_combinations, in_one_way, count_is}
-use Rattle.engine.specs.declared.BasisAnswer.{BasisAnswer}
 use Rattle.engine.specs.declared.BasisResult.{BasisResult}
 use Rattle.engine.specs.Answers.{basis_says}
 use Rattle.engine.specs.Sigma.{order_of}
@@ -36,10 +36,10 @@ use Rattle.engine.proofs.Admitted.{basis_sizes, approximant_sizes}
 record Given (p n s : ℕ) (d F left : List ℕ) (r : BasisResult) : Type 0 where
   prime : Prime p
   some : 0 < n
-  answered : BasisAnswered p n s d F left (basis_says (BasisAnswer.Found r))
+  answered : BasisAnswered p n s d F left (basis_says (Ok r))
 
 -- the answer's numbers are those of the basis that was found
-numbers : {p n s : ℕ} {d F left : List ℕ} {r : BasisResult} (a : BasisAnswered p n s d F left (basis_says (BasisAnswer.Found r)))
+numbers : {p n s : ℕ} {d F left : List ℕ} {r : BasisResult} (a : BasisAnswered p n s d F left (basis_says (Ok r)))
     → (r.least ≡ a.least + 1) × (r.count ≡ a.count)
 numbers {r} a =
     let q : result (r.least ∷ r.count ∷ []) ≡ result ((a.least + 1) ∷ a.count ∷ []) = a.says in
@@ -63,7 +63,7 @@ given_words {r} {r'} a b =
           (one.0 ∙ ap (λ (l : ℕ). l + 1) same.0 ∙ sym two.0, one.1 ∙ same.1 ∙ sym two.1),
     )
 
-module _ (p n s : ℕ) (d F lent left : List ℕ) (r : BasisResult) (o : BasisOutcome p n s d F lent (basis_says (BasisAnswer.Found r)) left) where
+module _ (p n s : ℕ) (d F lent left : List ℕ) (r : BasisResult) (o : BasisOutcome p n s d F lent (basis_says (Ok r)) left) where
   basis_given : Given p n s d F left r
   unfolding BasisOutcome
   basis_given =
@@ -81,12 +81,12 @@ module _ (p n s : ℕ) (d F lent left : List ℕ) (r : BasisResult) (o : BasisOu
   basis_count m z = (numbers basis_given.answered).1 ∙ count_is basis_given.prime basis_given.answered.found m z
 
 pub basis_words : (p n s : ℕ) (d F G lent lent' left left' : List ℕ) (r r' : BasisResult)
-    → BasisOutcome p n s d F lent (basis_says (BasisAnswer.Found r)) left → BasisOutcome p n s d G lent' (basis_says (BasisAnswer.Found r')) left'
+    → BasisOutcome p n s d F lent (basis_says (Ok r)) left → BasisOutcome p n s d G lent' (basis_says (Ok r')) left'
     → WordsAgree p n s F G left left' r r'
 basis_words p n s d F G lent lent' left left' r r' o o' = given_words (basis_given p n s d F lent left r o) (basis_given p n s d G lent' left' r' o')
 
-module _ (p n : ℕ) (d F lent left : List ℕ) (r : BasisResult) (o : ApproximantOutcome p n d F lent (basis_says (BasisAnswer.Found r)) left) where
-  approximant_given : Prime p × (0 < n) × Approximated p n (order_of n d) d F left (basis_says (BasisAnswer.Found r))
+module _ (p n : ℕ) (d F lent left : List ℕ) (r : BasisResult) (o : ApproximantOutcome p n d F lent (basis_says (Ok r)) left) where
+  approximant_given : Prime p × (0 < n) × Approximated p n (order_of n d) d F left (basis_says (Ok r))
   unfolding ApproximantOutcome
   approximant_given =
       let a = admitted _ _ _ _ (λ k refused. refused.0) o in
@@ -94,7 +94,7 @@ module _ (p n : ℕ) (d F lent left : List ℕ) (r : BasisResult) (o : Approxima
       (z.modulus.prime, z.n_from, a.1)
 
   -- the approximant's row is the least row of the basis at the order σ
-  pub approximated : Approximated p n (order_of n d) d F left (basis_says (BasisAnswer.Found r))
+  pub approximated : Approximated p n (order_of n d) d F left (basis_says (Ok r))
   approximated = approximant_given.2
 
   at_sigma : Given p n (order_of n d) d F left r
@@ -117,6 +117,6 @@ module _ (p n : ℕ) (d F lent left : List ℕ) (r : BasisResult) (o : Approxima
   approximant_degrees k t hk dg = pos_le t (get_or d k 0) (approximant_entries at_sigma.prime approximated.approximant k t hk dg)
 
 pub approximant_words : (p n : ℕ) (d F G lent lent' left left' : List ℕ) (r r' : BasisResult)
-    → ApproximantOutcome p n d F lent (basis_says (BasisAnswer.Found r)) left → ApproximantOutcome p n d G lent' (basis_says (BasisAnswer.Found r')) left'
+    → ApproximantOutcome p n d F lent (basis_says (Ok r)) left → ApproximantOutcome p n d G lent' (basis_says (Ok r')) left'
     → WordsAgree p n (order_of n d) F G left left' r r'
 approximant_words p n d F G lent lent' left left' r r' o o' = given_words (at_sigma p n d F lent left r o) (at_sigma p n d G lent' left' r' o')

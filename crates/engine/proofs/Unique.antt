@@ -1,4 +1,5 @@
 -- For each call, two outcomes that meet its contract for the same arguments are equal: result and buffers.
+use Rattle.std.proofs.Common.{Result, Ok, Err}
 use mathlib.Core.Path.{◌≡◌, ap, sym, ◌∙◌}
 use mathlib.Core.Logic.{inl, inr}
 use mathlib.Core.List.{List}
@@ -8,7 +9,9 @@ use Rattle.field.specs.Refusal.{Order, NoTest, Outcome}
 use Rattle.field.specs.Answer.{Answer, refusal}
 use Rattle.field.proofs.Outcome.{keep, same_outcome}
 use Rattle.solve.proofs.Found.{found_unique}
-use Rattle.engine.specs.declared.BasisAnswer.{BasisAnswer}
+use Rattle.field.specs.declared.Refusal.{Refusal}
+use Rattle.field.proofs.Numbered.{same_number}
+use Rattle.engine.specs.declared.BasisResult.{BasisResult}
 use Rattle.engine.specs.Answers.{basis_says}
 use Rattle.engine.specs.Basis.{BasisAnswered, BasisOutcome}
 use Rattle.engine.specs.Approximant.{ApproximantOutcome}
@@ -17,14 +20,14 @@ use Rattle.engine.proofs.View.{fits_decided}
 use Rattle.engine.proofs.Admitted.{basis_sizes, approximant_sizes}
 
 -- what the answers say tells them apart
-basis_told : (r r' : BasisAnswer) → basis_says r ≡ basis_says r' → r ≡ r'
-basis_told (BasisAnswer.Found r) (BasisAnswer.Found r') e =
+basis_told : (r r' : Result BasisResult Refusal) → basis_says r ≡ basis_says r' → r ≡ r'
+basis_told (Ok r) (Ok r') e =
     let l : r.least ≡ r'.least = cc in
     let c : r.count ≡ r'.count = cc in
-    ap BasisAnswer.Found (λ j. record { least = l j; count = c j })
-basis_told (BasisAnswer.Found r) (BasisAnswer.Refused k) e = cc
-basis_told (BasisAnswer.Refused k) (BasisAnswer.Found r) e = cc
-basis_told (BasisAnswer.Refused k) (BasisAnswer.Refused k') e = cc
+    ap Ok (λ j. record { least = l j; count = c j })
+basis_told (Ok r) (Err k) e = cc
+basis_told (Err k) (Ok r) e = cc
+basis_told (Err k) (Err k') e = ap Err (same_number k k' cc)
 
 -- the basis of some series is one list of words, with one least row and one count
 answered_same : {p n s : ℕ} {d F xs ys : List ℕ} {said said' : Answer} → 0 < n
@@ -50,13 +53,13 @@ unfolding BasisOutcome
 basis_same p n s d F lent said said' left left' =
     outcomes_same _ said said' lent left left' _ _ (λ t a b. answered_same (basis_sizes p n s d F (length lent) t).n_from a b)
 
-pub basis_unique : (p n s : ℕ) (d F lent : List ℕ) (r r' : BasisAnswer) (left left' : List ℕ)
+pub basis_unique : (p n s : ℕ) (d F lent : List ℕ) (r r' : Result BasisResult Refusal) (left left' : List ℕ)
     → BasisOutcome p n s d F lent (basis_says r) left → BasisOutcome p n s d F lent (basis_says r') left' → (r ≡ r') × (left ≡ left')
 basis_unique p n s d F lent r r' left left' h h' =
     let q = basis_same p n s d F lent (basis_says r) (basis_says r') left left' h h' in
     (basis_told r r' q.0, q.1)
 
-pub approximant_unique : (p n : ℕ) (d F lent : List ℕ) (r r' : BasisAnswer) (left left' : List ℕ)
+pub approximant_unique : (p n : ℕ) (d F lent : List ℕ) (r r' : Result BasisResult Refusal) (left left' : List ℕ)
     → ApproximantOutcome p n d F lent (basis_says r) left → ApproximantOutcome p n d F lent (basis_says r') left' → (r ≡ r') × (left ≡ left')
 unfolding ApproximantOutcome
 approximant_unique p n d F lent r r' left left' h h' =
