@@ -67,7 +67,7 @@ pub struct Shape {
 impl Shape {
     // The coefficient of X^at in the sum of the products of a row's entries with the series, each of which has one word less than an entry.
     pub fn row_product(&self, f: Field, row: &[u32], series: &[u32], at: usize) -> u32
-        requires sizes { (1 < f.modulus) × (at + 1 < self.now.width) × (self.now.width ≤ 256) × (length row.now ≡ self.now.n * self.now.width) × (length series.now ≡ self.now.n * (self.now.width - 1)) }
+        requires sizes { (at + 1 < self.now.width) × (self.now.width ≤ 256) × (length row.now ≡ self.now.n * self.now.width) × (length series.now ≡ self.now.n * (self.now.width - 1)) }
         requires row_ends { RowEndsAt self.now.n (vector self.now.width row.now) (degree_at self.now.tops) }
         ensures { result ≡ dot self.now.n (vector self.now.width row.now) (vector (self.now.width - 1) series.now) at % f.modulus }
     {
@@ -102,7 +102,7 @@ impl Shape {
 
     // c times a row is added to another. A multiple of p adds nothing, and is skipped.
     pub fn add_row_multiple(&self, f: Field, row: &mut [u32], from: &[u32], c: u32)
-        requires sizes { (0 < f.modulus) × (length row.old ≡ self.now.n * self.now.width) × (length from.now ≡ self.now.n * self.now.width) }
+        requires sizes { (length row.old ≡ self.now.n * self.now.width) × (length from.now ≡ self.now.n * self.now.width) }
         requires tops_below { TopsBelow self.now.n self.now.width self.now.tops }
         requires residues { Residues f.modulus (vector self.now.width row.old) }
         requires row_ends { RowEndsAt self.now.n (vector self.now.width from.now) (degree_at self.now.tops) }

@@ -61,7 +61,7 @@ pub fn least_row(flags: [u32; 8], tops: [Degree; 8], d: &[u32], n: usize) -> Opt
 
 // The coefficient of X^at in each row's sum of products with the series.
 fn coefficients(f: Field, basis: &[u32], series: &[u32], shape: &Shape, at: usize) -> [u32; 8]
-    requires sizes { (1 < f.modulus) × (at + 1 < shape.now.width) × (shape.now.width ≤ 256) × (length basis.now ≡ shape.now.n * (shape.now.n * shape.now.width)) × (length series.now ≡ shape.now.n * (shape.now.width - 1)) }
+    requires sizes { (at + 1 < shape.now.width) × (shape.now.width ≤ 256) × (length basis.now ≡ shape.now.n * (shape.now.n * shape.now.width)) × (length series.now ≡ shape.now.n * (shape.now.width - 1)) }
     requires rows_end { (l : ℕ) → l < shape.now.n → RowEndsAt shape.now.n (row_of shape.now.n shape.now.width basis.now l) (degree_at shape.now.tops) }
     ensures { ((l : ℕ) → l < shape.now.n → get_or result l 0 ≡ dot shape.now.n (row_of shape.now.n shape.now.width basis.now l) (vector (shape.now.width - 1) series.now) at % f.modulus)
         × ((l : ℕ) → shape.now.n ≤ l → get_or result l 0 ≡ 0) }
@@ -84,7 +84,7 @@ fn clear_rows(
     i: usize,
     shape: &Shape,
 )
-    requires sizes { (0 < f.modulus) × (i < shape.now.n) × (shape.now.width ≤ 256) × (length basis.old ≡ shape.now.n * (shape.now.n * shape.now.width)) × (length pivot.now ≡ shape.now.n * shape.now.width) }
+    requires sizes { (i < shape.now.n) × (shape.now.width ≤ 256) × (length basis.old ≡ shape.now.n * (shape.now.n * shape.now.width)) × (length pivot.now ≡ shape.now.n * shape.now.width) }
     requires tops_below { TopsBelow shape.now.n shape.now.width shape.now.tops }
     requires residues { (l : ℕ) → l < shape.now.n → Residues f.modulus (row_of shape.now.n shape.now.width basis.old l) }
     requires pivot_ends { RowEndsAt shape.now.n (vector shape.now.width pivot.now) (degree_at shape.now.tops) }
@@ -104,7 +104,7 @@ fn clear_rows(
 
 // Every column but i of X times the pivot row is cleared by a multiple of the row of that type.
 fn clear_columns(f: Field, moved: &mut [u32], basis: &[u32], i: usize, shape: &Shape)
-    requires sizes { (0 < f.modulus) × (shape.now.width ≤ 256) × (length basis.now ≡ shape.now.n * (shape.now.n * shape.now.width)) × (length moved.old ≡ shape.now.n * shape.now.width) }
+    requires sizes { (shape.now.width ≤ 256) × (length basis.now ≡ shape.now.n * (shape.now.n * shape.now.width)) × (length moved.old ≡ shape.now.n * shape.now.width) }
     requires tops_below { TopsBelow shape.now.n shape.now.width shape.now.tops }
     requires residues { Residues f.modulus (vector shape.now.width moved.old) }
     requires rows_end { (l : ℕ) → l < shape.now.n → l ≢ i → RowEndsAt shape.now.n (row_of shape.now.n shape.now.width basis.now l) (degree_at shape.now.tops) }
@@ -133,7 +133,7 @@ fn move_by(
     i: usize,
     shape: &Shape,
 )
-    requires sizes { (0 < f.modulus) × (i < shape.now.n) × (shape.now.width ≤ 256) × (length basis.old ≡ shape.now.n * (shape.now.n * shape.now.width)) × (length pivot.now ≡ shape.now.n * shape.now.width) × (length moved.old ≡ shape.now.n * shape.now.width) }
+    requires sizes { (i < shape.now.n) × (shape.now.width ≤ 256) × (length basis.old ≡ shape.now.n * (shape.now.n * shape.now.width)) × (length pivot.now ≡ shape.now.n * shape.now.width) × (length moved.old ≡ shape.now.n * shape.now.width) }
     requires tops_below { (k : ℕ) → k < shape.now.n → degree_at shape.now.tops k + 1 < shape.now.width }
     requires shape { BasisShape f.modulus shape.now.n (row_of shape.now.n shape.now.width basis.old) (degree_at shape.now.tops) }
     requires pivot { vector shape.now.width pivot.now ≡ row_of shape.now.n shape.now.width basis.old i }
@@ -158,7 +158,7 @@ fn move_row(
     i: usize,
     shape: &Shape,
 )
-    requires sizes { (0 < f.modulus) × (i < shape.now.n) × (shape.now.width ≤ 256) × (length basis.old ≡ shape.now.n * (shape.now.n * shape.now.width)) × (length pivot.old ≡ shape.now.n * shape.now.width) × (length moved.old ≡ shape.now.n * shape.now.width) }
+    requires sizes { (i < shape.now.n) × (shape.now.width ≤ 256) × (length basis.old ≡ shape.now.n * (shape.now.n * shape.now.width)) × (length pivot.old ≡ shape.now.n * shape.now.width) × (length moved.old ≡ shape.now.n * shape.now.width) }
     requires tops_below { (k : ℕ) → k < shape.now.n → degree_at shape.now.tops k + 1 < shape.now.width }
     requires shape { BasisShape f.modulus shape.now.n (row_of shape.now.n shape.now.width basis.old) (degree_at shape.now.tops) }
     ensures { (length basis.new ≡ length basis.old)

@@ -17,7 +17,7 @@ row_product-requires c =
     let l = c.loop-l.l in
     let size = shape.n * shape.width in
     let long = part_length size l c.args.basis.now (omega (arith, part_fits shape.n size l (omega arith))) in
-    record { sizes = (omega arith, omega arith, omega arith, ap length c.part_at.ensures ∙ long, c.requires.sizes.4); row_ends = λ k h t g. rw c.part_at.ensures (c.requires.rows_end l (omega arith) k h t g) }
+    record { sizes = (omega arith, omega arith, ap length c.part_at.ensures ∙ long, c.requires.sizes.3); row_ends = λ k h t g. rw c.part_at.ensures (c.requires.rows_end l (omega arith) k h t g) }
 
 pub loop-l-preserved : goal.loop-l-preserved
 unfolding row poly

@@ -29,7 +29,7 @@ first c = rw c.in-Some.is at c.least_row.ensures
 pub coefficients-c-requires : goal.coefficients-c-requires
 coefficients-c-requires c =
     let problem = c.args.problem in
-    record { sizes = (omega (arith, problem.prime.above_one), omega arith, omega (arith, problem.short), c.requires.sizes.1, rw one_more problem.full); rows_end = λ l h k hk t g. entry_short c.requires.reduced l k h hk t g }
+    record { sizes = (omega arith, omega (arith, problem.short), c.requires.sizes.1, rw one_more problem.full); rows_end = λ l h k hk t g. entry_short c.requires.reduced l k h hk t g }
 
 pub least_row-requires : goal.least_row-requires
 least_row-requires c =

@@ -52,7 +52,7 @@ sum_of-requires c =
     let at = c.args.at in
     let h : l.k ≤ n = omega (arith, length-take n c.args.self.now.tops) in
     let small = row_small l.k (at + 1) (omega arith) (omega arith) in
-    (omega arith, l.invariant.room 1 (record { low = omega arith; high = omega arith }))
+    l.invariant.room 1 (record { low = omega arith; high = omega arith })
 
 pub returns : goal.returns
 unfolding dot
