@@ -1,7 +1,7 @@
 -- Faults of blocks in turn: how a scan finds the first, and that there is none exactly where each block has its number and is sound.
-use Rattle.std.proofs.Common.{◌≡◌, ℕ, zero, suc, ◌+◌, ◌-◌, ◌*◌, ◌<◌, ◌≤◌, ◌≢◌, List, take, drop, ◌∙◌, add-zero, arith, drop-drop}
+use Rattle.std.proofs.Common.{◌≡◌, ℕ, zero, suc, ◌+◌, ◌-◌, ◌*◌, ◌<◌, ◌≤◌, ◌≢◌, List, Result, Ok, Err, take, drop, ◌∙◌, add-zero, arith, drop-drop}
 use native.Mathlib.Nat.{sub-zero}
-use Rattle.field.specs.declared.Tested.{Tested}
+use Rattle.field.specs.declared.Refusal.{Refusal}
 use Rattle.field.specs.Refusal.{Order, NoTest}
 use Rattle.field.specs.Calls.{Tests}
 use Rattle.field.proofs.Truth.{same_of, exact}
@@ -12,18 +12,18 @@ use Rattle.block.specs.Fault.{faults}
 use Rattle.block.proofs.File.{block_next}
 
 module _ (b m : ℕ) (l : List ℕ) where
-  pub number_wrong : number_of (take 512 l) ≢ b → Tests (faults b (suc m) l) (Tested.Refused 9)
+  pub number_wrong : number_of (take 512 l) ≢ b → Tests (faults b (suc m) l) (Err Refusal.BlockNumber)
   unfolding faults
-  number_wrong h = here _ _ h
+  number_wrong h = here _ _ Refusal.BlockNumber h
 
-  pub checks_wrong : number_of (take 512 l) ≡ b → ¬ Sound (take 512 l) → Tests (faults b (suc m) l) (Tested.Refused 10)
+  pub checks_wrong : number_of (take 512 l) ≡ b → ¬ Sound (take 512 l) → Tests (faults b (suc m) l) (Err Refusal.Check)
   unfolding faults
-  checks_wrong n h = later _ _ _ (exact n) (here _ _ h)
+  checks_wrong n h = later _ _ (Err Refusal.Check) (exact n) (here _ _ Refusal.Check h)
 
   -- a block without fault leaves the answer to the blocks after it
-  pub passed : number_of (take 512 l) ≡ b → Sound (take 512 l) → (t : Tested) → Tests (faults (suc b) m (drop 512 l)) t → Tests (faults b (suc m) l) t
+  pub passed : number_of (take 512 l) ≡ b → Sound (take 512 l) → (t : Result Unit Refusal) → Tests (faults (suc b) m (drop 512 l)) t → Tests (faults b (suc m) l) t
   unfolding faults
-  passed n s t r = later _ _ _ (exact n) (later _ _ _ (λ e. e s) r)
+  passed n s t r = later _ _ t (exact n) (later _ _ t (λ e. e s) r)
 
 -- the faults of count blocks from block b on
 abbrev pub faults_from : ℕ → ℕ → List ℕ → ℕ → Order
@@ -34,14 +34,14 @@ module _ (first count : ℕ) (l : List ℕ) (b x : ℕ) (h : b < count) (is : x 
   left : count - b ≡ suc (count - (b + 1))
   left = omega arith
 
-  pub number_wrong_at : number_of (take x (drop (512 * b) l)) ≢ first + b → Tests (faults_from first count l b) (Tested.Refused 9)
+  pub number_wrong_at : number_of (take x (drop (512 * b) l)) ≢ first + b → Tests (faults_from first count l b) (Err Refusal.BlockNumber)
   number_wrong_at n = rw left (number_wrong (first + b) (count - (b + 1)) (drop (512 * b) l) (rw is at n))
 
   pub checks_wrong_at : number_of (take x (drop (512 * b) l)) ≡ first + b → ¬ Sound (take x (drop (512 * b) l))
-      → Tests (faults_from first count l b) (Tested.Refused 10)
+      → Tests (faults_from first count l b) (Err Refusal.Check)
   checks_wrong_at n s = rw left (checks_wrong (first + b) (count - (b + 1)) (drop (512 * b) l) (rw is at n) (rw is at s))
 
-  pub passed_at : number_of (take x (drop (512 * b) l)) ≡ first + b → Sound (take x (drop (512 * b) l)) → (t : Tested)
+  pub passed_at : number_of (take x (drop (512 * b) l)) ≡ first + b → Sound (take x (drop (512 * b) l)) → (t : Result Unit Refusal)
       → Tests (faults_from first count l (b + 1)) t → Tests (faults_from first count l b) t
   passed_at n s t r =
       let i : 512 * b + 512 ≡ 512 * (b + 1) = omega arith in
@@ -50,12 +50,12 @@ module _ (first count : ℕ) (l : List ℕ) (b x : ℕ) (h : b < count) (is : x 
       rw left (passed (first + b) (count - (b + 1)) (drop (512 * b) l) (rw is at n) (rw is at s) t (rw (d, ← f) r))
 
 -- at the start all are left, and none after the last
-pub all_left : (first count : ℕ) (l : List ℕ) (t : Tested) → Tests (faults_from first count l 0) t → Tests (faults first count l) t
+pub all_left : (first count : ℕ) (l : List ℕ) (t : Result Unit Refusal) → Tests (faults_from first count l 0) t → Tests (faults first count l) t
 all_left first count l t h = simp (add-zero, sub-zero) at h
 
-pub none_left : (first count : ℕ) (l : List ℕ) (b : ℕ) → count ≤ b → Tests (faults_from first count l b) Tested.Passed
+pub none_left : (first count : ℕ) (l : List ℕ) (b : ℕ) → count ≤ b → Tests (faults_from first count l b) (Ok tt)
 unfolding faults
-none_left first count l b h = let e : count - b ≡ 0 = omega arith in rw e no_more
+none_left first count l b h = let e : count - b ≡ 0 = omega arith in rw e (no_more tt)
 
 sound_stable : (l : List ℕ) → ¬ (¬ Sound l) → Sound l
 sound_stable l h = record {

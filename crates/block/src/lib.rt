@@ -23,7 +23,7 @@ ghost use Rattle.field.specs.Calls.{Tests};
 ghost use Rattle.words.specs.Polynomial.{poly};
 ghost use Rattle.words.specs.Some.{Some};
 
-use field::Tested;
+use field::Refusal;
 
 // Check A and check B.
 #[derive(Clone, Copy, PartialEq, Eq)]
@@ -203,7 +203,7 @@ pub fn is_bad_length(file: usize, largest: usize) -> bool
 }
 
 // Tests count blocks in turn, which should be numbered from first.
-pub fn test_blocks(file: &[u8], first: u32, count: usize) -> Tested
+pub fn test_blocks(file: &[u8], first: u32, count: usize) -> Result<(), Refusal>
     requires file_length { length file.now ≡ 512 * count }
     requires numbers { first + count ≤ 4294967296 }
     ensures { Tests (faults first count file.now) result }
@@ -214,26 +214,26 @@ pub fn test_blocks(file: &[u8], first: u32, count: usize) -> Tested
             bytes: &file[at..at + 512],
         };
         if block.number() != first + b as u32 {
-            return Tested::Refused(9);
+            return Err(Refusal::BlockNumber);
         }
         if !block.is_sound() {
-            return Tested::Refused(10);
+            return Err(Refusal::Check);
         }
     }
-    Tested::Passed
+    Ok(())
 }
 
 // Tests a file that should hold count words. The spare words are looked at only once their blocks are known to be there.
-pub fn test_count(file: &[u8], count: usize) -> Tested
+pub fn test_count(file: &[u8], count: usize) -> Result<(), Refusal>
     requires { count ≤ 4294967295 }
     ensures { Tests (count_tests file.now count) result }
 {
     let blocks = file.len() / 512;
     if blocks != blocks_for(count) {
-        return Tested::Refused(11);
+        return Err(Refusal::BlockCount);
     }
     if any_payload_from(file, count, 125 * blocks - count, 1) {
-        return Tested::Refused(12);
+        return Err(Refusal::SpareWord);
     }
-    Tested::Passed
+    Ok(())
 }
