@@ -1,34 +1,21 @@
 -- A job's words, written one part after the other to as many lent ones.
-use mathlib.Core.Path.{◌≡◌, ap, ◌∙◌}
-use mathlib.Core.List.{List, [], ◌∷◌, append-nil}
-use Prim.Native.Nat.{ℕ, ◌+◌, ◌-◌, ◌≤◌}
-use native.Mathlib.Omega.{arith}
-use lib.ListN.{length, set, drop, length-set, drop_of_length-le}
-use lib.Seq.{take_at, drop_at, drop-drop}
-use borrow.Rule.Slice.PartMut.{put_mid, same_len_mid, mid_len}
+use Rattle.std.proofs.Common.{◌≡◌, ℕ, ◌+◌, ◌-◌, ◌≤◌, List, [], ◌∷◌, ◌++◌, append-nil, arith, length, drop, length-append, take_at, drop_at}
+use lib.ListN.{drop_of_length-le}
+use borrow.Rule.Slice.PartMut.{put_mid}
 use Rattle.jobfile.specs.Job.{job_of}
 use Rattle.jobfile.specs.Layout.{words_of}
 
--- the type stands after the first three words
-pub length_first : (ws : List ℕ) (p n s : ℕ) (d x : List ℕ) → 3 + length d ≤ length ws → x ≡ d
-    → length (put_mid 3 (3 + length d - 3) (set (set (set ws 0 p) 1 n) 2 s) x) ≡ length ws
-length_first ws p n s d x h e =
-    let w = set (set (set ws 0 p) 1 n) 2 s in
-    let l : length w ≡ length ws = simp length-set in
-    same_len_mid 3 (3 + length d - 3) w x (ap length e ∙ omega (arith, mid_len 3 (3 + length d) w (omega arith))) ∙ l
+-- the last part, behind what was written
+behind : (done rest y : List ℕ) (a k : ℕ) → length done ≡ a → length rest ≤ k → put_mid a k (done ++ rest) y ≡ done ++ y
+behind done rest y a k e h = rw (take_at done rest a e, drop_at done rest a e, drop_of_length-le rest {i = k} h, append-nil)
 
-pub gathered : (ws : List ℕ) (p n s : ℕ) (d series x y : List ℕ) → length ws ≡ 3 + length d + length series → x ≡ d → y ≡ series
-    → put_mid (3 + length d) (3 + length d + length series - (3 + length d)) (put_mid 3 (3 + length d - 3) (set (set (set ws 0 p) 1 n) 2 s) x) y
-    ≡ words_of (job_of p n s d series)
+pub gathered : (ws : List ℕ) (p n s : ℕ) (d series first x y : List ℕ) → length ws ≡ 3 + length d + length series
+    → first ≡ p ∷ n ∷ s ∷ [] → x ≡ d → y ≡ series
+    → let begun = put_mid 3 (3 + length d - 3) (first ++ drop 3 ws) x in
+    put_mid (3 + length d) (length begun - (3 + length d)) begun y ≡ words_of (job_of p n s d series)
 unfolding words_of
-gathered [] p n s d series x y h ex ey = absurd (omega arith)
-gathered (_ ∷ []) p n s d series x y h ex ey = absurd (omega arith)
-gathered (_ ∷ _ ∷ []) p n s d series x y h ex ey = absurd (omega arith)
-gathered (_ ∷ _ ∷ _ ∷ ws) p n s d series x y h ex ey =
-    let first : 3 + length d - 3 ≡ length d = omega arith in
-    let second : 3 + length d + length series - (3 + length d) ≡ length series = omega arith in
-    let all : length (p ∷ n ∷ s ∷ d) ≡ 3 + length d = omega arith in
-    let before = take_at (p ∷ n ∷ s ∷ d) (drop (length d) ws) (3 + length d) all in
-    let after = drop_at (p ∷ n ∷ s ∷ d) (drop (length d) ws) (3 + length d) all in
-    let none : drop (length d + length series) ws ≡ [] = drop_of_length-le ws {i = length d + length series} (omega arith) in
-    rw (first, second, ex, ey, before, after, drop-drop, none, append-nil)
+gathered ws p n s d series first x y h ef ex ey =
+    let done = p ∷ n ∷ s ∷ d in
+    let rest = drop (length d) (drop 3 ws) in
+    let k : 3 + length d - 3 ≡ length d = omega arith in
+    rw (ef, ex, ey, k) (behind done rest series (3 + length d) (length (done ++ rest) - (3 + length d)) (omega arith) (omega (arith, length-append done rest)))

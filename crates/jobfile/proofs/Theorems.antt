@@ -10,7 +10,10 @@ use Prim.Native.Nat.{ℕ, ◌*◌}
 use native.Mathlib.Omega.{arith}
 use lib.ListN.{length, take}
 use lib.Seq.{take_at}
+use Rattle.std.proofs.Common.{Result, Ok, Err}
+use Rattle.field.specs.declared.Refusal.{Refusal}
 use Rattle.field.specs.Refusal.{NoTest, Outcome}
+use Rattle.field.proofs.Numbered.{same_number}
 use Rattle.field.specs.Answer.{Answer, result}
 use Rattle.field.proofs.Outcome.{same_outcome, none_both, answer, no_result_refused}
 use Rattle.sizes.specs.declared.JobSizes.{JobSizes}
@@ -27,8 +30,6 @@ use Rattle.sizes.proofs.Entry.{none_outside}
 use Rattle.jobfile.specs.Orders.{reader_order, buffer_tests, writer_order}
 use Rattle.jobfile.specs.Answers.{job_says, write_says}
 use Rattle.jobfile.specs.Outcomes.{JobRead, ReadOutcome, JobWritten, WriteOutcome}
-use Rattle.jobfile.specs.declared.JobAnswer.{JobAnswer}
-use Rattle.jobfile.specs.declared.WriteAnswer.{WriteAnswer}
 use Rattle.field.proofs.Truth.{no_either, exact}
 use Rattle.jobfile.proofs.Passed.{writer_passed}
 use Rattle.jobfile.proofs.LaidOut.{length_words, length_layout, blocks_layout, job_layout, layout_sizes, layout_passes}
@@ -40,17 +41,17 @@ same_sizes : (j j' : JobSizes) → j.p ≡ j'.p → j.n ≡ j'.n → j.s ≡ j'.
 same_sizes j j' p n s = λ i. record { p = p i; n = n i; s = s i }
 
 -- what the answers say tells them apart
-job_told : (r r' : JobAnswer) → job_says r ≡ job_says r' → r ≡ r'
-job_told (JobAnswer.Job j) (JobAnswer.Job j') e = ap JobAnswer.Job (same_sizes j j' (cc) (cc) (cc))
-job_told (JobAnswer.Job j) (JobAnswer.Refused k) e = cc
-job_told (JobAnswer.Refused k) (JobAnswer.Job j) e = cc
-job_told (JobAnswer.Refused k) (JobAnswer.Refused k') e = cc
+job_told : (r r' : Result JobSizes Refusal) → job_says r ≡ job_says r' → r ≡ r'
+job_told (Ok j) (Ok j') e = ap Ok (same_sizes j j' (cc) (cc) (cc))
+job_told (Ok j) (Err f) e = cc
+job_told (Err f) (Ok j) e = cc
+job_told (Err f) (Err g) e = ap Err (same_number f g (cc))
 
-write_told : (r r' : WriteAnswer) → write_says r ≡ write_says r' → r ≡ r'
-write_told (WriteAnswer.Blocks m) (WriteAnswer.Blocks m') e = cc
-write_told (WriteAnswer.Blocks m) (WriteAnswer.Refused k) e = cc
-write_told (WriteAnswer.Refused k) (WriteAnswer.Blocks m) e = cc
-write_told (WriteAnswer.Refused k) (WriteAnswer.Refused k') e = cc
+write_told : (r r' : Result ℕ Refusal) → write_says r ≡ write_says r' → r ≡ r'
+write_told (Ok m) (Ok m') e = cc
+write_told (Ok m) (Err f) e = cc
+write_told (Err f) (Ok m) e = cc
+write_told (Err f) (Err g) e = ap Err (same_number f g (cc))
 
 -- what is said and written of a job, by any name of it
 of_job : {file d series : List ℕ} {said : Answer} {d' series' : List ℕ} (r : JobRead file d series said d' series') (j : Job) → r.job ≡ j
@@ -83,7 +84,7 @@ same_read r r' =
     let q = of_job r r'.job (layout_injective r.job r'.job r.admitted r'.admitted (sym r.laid_out ∙ r'.laid_out)) in
     (q.0 ∙ sym r'.says, q.1 ∙ sym r'.type_written, q.2 ∙ sym r'.series_written)
 
-pub read_unique : (file d series : List ℕ) (r r' : JobAnswer) (d₁ series₁ d₂ series₂ : List ℕ)
+pub read_unique : (file d series : List ℕ) (r r' : Result JobSizes Refusal) (d₁ series₁ d₂ series₂ : List ℕ)
     → ReadOutcome file d series (job_says r) d₁ series₁ → ReadOutcome file d series (job_says r') d₂ series₂
     → (r ≡ r') × (d₁ ≡ d₂) × (series₁ ≡ series₂)
 unfolding ReadOutcome
@@ -92,7 +93,7 @@ read_unique file d series r r' d₁ series₁ d₂ series₂ h h' = elim (same_o
   | inr w ↦ (job_told r r' (w.1.0 ∙ sym w.2.0), w.1.1 ∙ sym w.2.1, w.1.2 ∙ sym w.2.2)
 ]
 
-pub write_unique : (p n s : ℕ) (d series out : List ℕ) (r r' : WriteAnswer) (out₁ out₂ : List ℕ)
+pub write_unique : (p n s : ℕ) (d series out : List ℕ) (r r' : Result ℕ Refusal) (out₁ out₂ : List ℕ)
     → WriteOutcome p n s d series out (write_says r) out₁ → WriteOutcome p n s d series out (write_says r') out₂ → (r ≡ r') × (out₁ ≡ out₂)
 unfolding WriteOutcome
 write_unique p n s d series out r r' out₁ out₂ h h' = elim (same_outcome _ _ _ _ _ h h') [

@@ -1,15 +1,16 @@
 -- What each case of the reader's and of the writer's answers says in document 01's terms.
-use Rattle.std.specs.Prelude.{[], ◌∷◌}
+use Rattle.std.specs.Prelude.{ℕ, [], ◌∷◌, Result, Ok, Err}
 use Rattle.field.specs.Answer.{Answer, result, refusal}
-use Rattle.jobfile.specs.declared.JobAnswer.{JobAnswer}
-use Rattle.jobfile.specs.declared.WriteAnswer.{WriteAnswer}
+use Rattle.field.specs.Number.{number_of}
+use Rattle.field.specs.declared.Refusal.{Refusal}
+use Rattle.sizes.specs.declared.JobSizes.{JobSizes}
 
 -- p, n and s, or a refusal
-abbrev pub job_says : JobAnswer → Answer
-job_says (JobAnswer.Job j) = result (j.p ∷ j.n ∷ j.s ∷ [])
-job_says (JobAnswer.Refused k) = refusal k
+abbrev pub job_says : Result JobSizes Refusal → Answer
+job_says (Ok j) = result (j.p ∷ j.n ∷ j.s ∷ [])
+job_says (Err e) = refusal (number_of e)
 
 -- how many blocks, or a refusal
-abbrev pub write_says : WriteAnswer → Answer
-write_says (WriteAnswer.Blocks m) = result (m ∷ [])
-write_says (WriteAnswer.Refused k) = refusal k
+abbrev pub write_says : Result ℕ Refusal → Answer
+write_says (Ok m) = result (m ∷ [])
+write_says (Err e) = refusal (number_of e)

@@ -2,6 +2,7 @@
 -- (document 01, "Sizes").
 use Rattle.std.specs.Prelude.{◌≡◌, List, ℕ, ◌*◌, ◌≤◌, ◌<◌, length, get_or}
 use Rattle.field.specs.Modulus.{Modulus}
+use Rattle.sizes.specs.declared.Job as L
 
 pub record Job : Type 0 where
   pub p : ℕ
@@ -12,6 +13,10 @@ pub record Job : Type 0 where
 
 abbrev pub job_of : ℕ → ℕ → ℕ → List ℕ → List ℕ → Job
 job_of p n s d series = record { p = p; n = n; s = s; d = d; series = series }
+
+-- the job that is lent
+abbrev pub lent_job : L.Job → Job
+lent_job j = job_of j.sizes.p j.sizes.n j.sizes.s j.d.now j.series.now
 
 -- past its end a list gives zero, which every bound admits
 pub record Admitted (j : Job) : Type 0 where

@@ -2,19 +2,20 @@
 // definition, `layout`. The two public calls test every argument and have no premise; the other functions serve them.
 #![tactic(auto)]
 
-ghost use Rattle.std.specs.Prelude.{◌≡◌, ◌+◌, ◌*◌, ◌≤◌, length};
+ghost use Rattle.std.specs.Prelude.{◌≡◌, ◌+◌, ◌≤◌, length, Ok};
 ghost use Rattle.field.specs.Refusal.{NoTest};
 ghost use Rattle.field.specs.Calls.{Tests};
-ghost use Rattle.block.specs.Part.{blocks_in, payload_at};
+ghost use Rattle.block.specs.Part.{payload_at};
 ghost use Rattle.jobfile.specs.Lengths.{file_bytes};
-ghost use Rattle.jobfile.specs.Job.{Admitted, job_of};
-ghost use Rattle.jobfile.specs.Layout.{word_count, words_of};
-ghost use Rattle.jobfile.specs.Orders.{length_tests, content_tests, bound_tests, word_tests, reader_order, buffer_tests, writer_order};
+ghost use Rattle.jobfile.specs.Job.{Admitted, lent_job};
+ghost use Rattle.jobfile.specs.Layout.{words_of};
+ghost use Rattle.jobfile.specs.Payload.{sizes_in};
+ghost use Rattle.jobfile.specs.Orders.{length_tests, content_tests, word_tests, reader_order, writer_order};
 ghost use Rattle.jobfile.specs.Answers.{job_says, write_says};
 ghost use Rattle.jobfile.specs.Outcomes.{JobRead, ReadOutcome, JobWritten, WriteOutcome};
 
-use field::Tested;
-use sizes::JobSizes;
+use field::Refusal;
+use sizes::{Job, JobSizes};
 
 // The lengths of the buffers that are lent.
 pub const TYPE_WORDS: usize = 8;
@@ -26,175 +27,122 @@ pub const FILE_BYTES: usize = 8704;
 // The words of the largest job.
 const JOB_WORDS: usize = 3 + TYPE_WORDS + SERIES_WORDS;
 
-// What the file says, or the refusal.
-#[derive(Clone, Copy)]
-pub enum JobAnswer {
-    Job(JobSizes),
-    Refused(u32),
-}
-
-// How many blocks were written, or the refusal.
-#[derive(Clone, Copy)]
-pub enum WriteAnswer {
-    Blocks(u32),
-    Refused(u32),
-}
-
-fn test_lengths(file: usize, d: usize, series: usize) -> Tested
+fn test_lengths(file: usize, d: usize, series: usize) -> Result<(), Refusal>
     ensures { Tests (length_tests file d series) result }
 {
-    if d != TYPE_WORDS {
-        return Tested::Refused(4);
-    }
-    if series != SERIES_WORDS {
-        return Tested::Refused(4);
+    if d != TYPE_WORDS || series != SERIES_WORDS {
+        return Err(Refusal::Length);
     }
     if block::is_bad_length(file, FILE_BYTES) {
-        return Tested::Refused(8);
+        return Err(Refusal::FileLength);
     }
-    Tested::Passed
+    Ok(())
 }
 
-// The type entries and the coefficients of a file that has words for them.
-fn test_bounds(file: &[u8], p: u32, n: usize, s: usize) -> Tested
-    requires { (n ≤ 8) × (s ≤ 255) × (word_count n s ≤ 125 * blocks_in file.now) }
-    ensures { Tests (bound_tests file.now p n s) result }
+// The count of words, then the type entries and the coefficients, which lie in the file once the count is right.
+fn test_contents(file: &[u8], sizes: JobSizes) -> Result<(), Refusal>
+    requires { (sizes.n ≤ 8) × (sizes.s ≤ 255) }
+    ensures { Tests (content_tests file.now sizes.p sizes.n sizes.s) result }
 {
+    let n = sizes.n as usize;
+    let size = n * sizes.s as usize;
+    block::test_count(file, 3 + n + size)?;
     if block::any_payload_from(file, 3, n, 256) {
-        return Tested::Refused(5);
+        return Err(Refusal::Entry);
     }
-    if block::any_payload_from(file, 3 + n, n * s, p) {
-        return Tested::Refused(6);
+    if block::any_payload_from(file, 3 + n, size, sizes.p) {
+        return Err(Refusal::Coefficient);
     }
-    Tested::Passed
+    Ok(())
 }
 
-fn test_contents(file: &[u8], p: u32, n: usize, s: usize) -> Tested
-    requires { (n ≤ 8) × (s ≤ 255) }
-    ensures { Tests (content_tests file.now p n s) result }
+// The sizes that a file says.
+fn sizes_in(file: &[u8]) -> JobSizes
+    requires { 512 ≤ length file.now }
+    ensures { result ≡ sizes_in file.now }
 {
-    match block::test_count(file, 3 + n + n * s) {
-        Tested::Passed => test_bounds(file, p, n, s),
-        Tested::Refused(k) => Tested::Refused(k),
+    JobSizes {
+        p: block::payload_word(file, 0),
+        n: block::payload_word(file, 1),
+        s: block::payload_word(file, 2),
     }
 }
 
-fn test_words(file: &[u8]) -> Tested
+fn test_words(file: &[u8]) -> Result<(), Refusal>
     requires { 512 ≤ length file.now }
     ensures { Tests (word_tests file.now (payload_at file.now 0) (payload_at file.now 1) (payload_at file.now 2)) result }
 {
-    let p = block::payload_word(file, 0);
-    let n = block::payload_word(file, 1);
-    let s = block::payload_word(file, 2);
-    match sizes::test_sizes(p, n, s) {
-        Tested::Passed => test_contents(file, p, n as usize, s as usize),
-        Tested::Refused(k) => Tested::Refused(k),
-    }
+    let sizes = sizes_in(file);
+    sizes::test_sizes(sizes)?;
+    test_contents(file, sizes)
 }
 
-fn test_file(file: &[u8], d: usize, series: usize) -> Tested
+fn test_file(file: &[u8], d: usize, series: usize) -> Result<(), Refusal>
     ensures { Tests (reader_order file.now d series) result }
 {
-    match test_lengths(file.len(), d, series) {
-        Tested::Passed => match block::test_blocks(file, 0, file.len() / 512) {
-            Tested::Passed => test_words(file),
-            Tested::Refused(k) => Tested::Refused(k),
-        },
-        Tested::Refused(k) => Tested::Refused(k),
-    }
+    test_lengths(file.len(), d, series)?;
+    block::test_blocks(file, 0, file.len() / 512)?;
+    test_words(file)
 }
 
 // Reads a file that passed its tests.
-fn read_tested(file: &[u8], d: &mut [u32], series: &mut [u32]) -> JobAnswer
+fn read_tested(file: &[u8], d: &mut [u32], series: &mut [u32]) -> JobSizes
     requires { NoTest (reader_order file.now (length d.old) (length series.old)) }
-    ensures { JobRead file.now d.old series.old (job_says result) d.new series.new }
+    ensures { JobRead file.now d.old series.old (job_says (Ok result)) d.new series.new }
 {
-    let p = block::payload_word(file, 0);
-    let n = block::payload_word(file, 1);
-    let s = block::payload_word(file, 2);
-    let rows = n as usize;
-    let size = rows * s as usize;
-    block::read_payload(file, 3, &mut d[..rows]);
-    block::read_payload(file, 3 + rows, &mut series[..size]);
-    JobAnswer::Job(JobSizes { p, n, s })
+    let said = sizes_in(file);
+    let n = said.n as usize;
+    let size = n * said.s as usize;
+    block::read_payload(file, 3, &mut d[..n]);
+    block::read_payload(file, 3 + n, &mut series[..size]);
+    said
 }
 
 // Reads a job file: p, n and s are answered, and the first n and the first n * s words written. The buffers lent have TYPE_WORDS and
 // SERIES_WORDS words.
-pub fn read_job(file: &[u8], d: &mut [u32], series: &mut [u32]) -> JobAnswer
+pub fn read_job(file: &[u8], d: &mut [u32], series: &mut [u32]) -> Result<JobSizes, Refusal>
     ensures { ReadOutcome file.now d.old series.old (job_says result) d.new series.new }
 {
-    match test_file(file, d.len(), series.len()) {
-        Tested::Passed => read_tested(file, d, series),
-        Tested::Refused(k) => JobAnswer::Refused(k),
-    }
+    test_file(file, d.len(), series.len())?;
+    Ok(read_tested(file, d, series))
 }
 
-fn test_buffers(p: u32, n: usize, s: usize, d: &[u32], series: &[u32], out: usize) -> Tested
-    requires { (n ≤ 8) × (s ≤ 255) }
-    ensures { Tests (buffer_tests p n s d.now series.now out) result }
+fn test_job(job: Job<'_>, out: usize) -> Result<(), Refusal>
+    ensures { Tests (writer_order job.entry.sizes.p job.entry.sizes.n job.entry.sizes.s job.entry.d.now job.entry.series.now out) result }
 {
+    sizes::test_sizes(job.sizes)?;
     if out != FILE_BYTES {
-        return Tested::Refused(4);
+        return Err(Refusal::Length);
     }
-    sizes::test_job(p, n, s, d, series)
-}
-
-fn test_job(p: u32, n: u32, s: u32, d: &[u32], series: &[u32], out: usize) -> Tested
-    ensures { Tests (writer_order p n s d.now series.now out) result }
-{
-    match sizes::test_sizes(p, n, s) {
-        Tested::Passed => test_buffers(p, n as usize, s as usize, d, series, out),
-        Tested::Refused(k) => Tested::Refused(k),
-    }
+    sizes::test_job(job)
 }
 
 // Writes a job's words to as many lent ones.
-fn gather(words: &mut [u32], p: u32, n: u32, s: u32, d: &[u32], series: &[u32])
-    requires { length words.old ≡ 3 + length d.now + length series.now }
-    ensures { words.new ≡ words_of (job_of p n s d.now series.now) }
+fn gather(words: &mut [u32], job: Job<'_>)
+    requires { length words.old ≡ 3 + length job.d.now + length job.series.now }
+    ensures { words.new ≡ words_of (lent_job job.entry) }
 {
-    words[0] = p;
-    words[1] = n;
-    words[2] = s;
-    let after = 3 + d.len();
-    let end = after + series.len();
-    words::copy(d, &mut words[3..after]);
-    words::copy(series, &mut words[after..end]);
+    let after = 3 + job.d.len();
+    words[..3].copy_from_slice(&[job.sizes.p, job.sizes.n, job.sizes.s]);
+    words[3..after].copy_from_slice(job.d);
+    words[after..].copy_from_slice(job.series);
 }
 
-// Writes a job that passed its tests, by way of as many lent words as it has.
-fn write_words(
-    words: &mut [u32],
-    p: u32,
-    n: u32,
-    s: u32,
-    d: &[u32],
-    series: &[u32],
-    out: &mut [u8],
-) -> WriteAnswer
-    requires { Admitted (job_of p n s d.now series.now) × (length out.old ≡ file_bytes) × (length words.old ≡ 3 + length d.now + length series.now) }
-    ensures { JobWritten (job_of p n s d.now series.now) out.old (write_says result) out.new }
+// Writes a job that passed its tests, and answers the number of blocks.
+fn write_tested(job: Job<'_>, out: &mut [u8]) -> u32
+    requires { Admitted (lent_job job) × (length out.old ≡ file_bytes) }
+    ensures { JobWritten (lent_job job.entry) out.old (write_says (Ok result)) out.new }
 {
-    gather(words, p, n, s, d, series);
-    WriteAnswer::Blocks(block::write_file(words, out))
+    let mut buffer = [0u32; JOB_WORDS];
+    let words = &mut buffer[..3 + job.d.len() + job.series.len()];
+    gather(words, job);
+    block::write_file(words, out)
 }
 
-fn write_tested(p: u32, n: u32, s: u32, d: &[u32], series: &[u32], out: &mut [u8]) -> WriteAnswer
-    requires { Admitted (job_of p n s d.now series.now) × (length out.old ≡ file_bytes) }
-    ensures { JobWritten (job_of p n s d.now series.now) out.old (write_says result) out.new }
+// Writes a job file to the first bytes of out, which has FILE_BYTES bytes, and answers its number of blocks.
+pub fn write_job(job: Job<'_>, out: &mut [u8]) -> Result<u32, Refusal>
+    ensures { WriteOutcome job.entry.sizes.p job.entry.sizes.n job.entry.sizes.s job.entry.d.now job.entry.series.now out.old (write_says result) out.new }
 {
-    let mut words = [0u32; JOB_WORDS];
-    let count = 3 + d.len() + series.len();
-    write_words(&mut words[..count], p, n, s, d, series, out)
-}
-
-// Writes a job file to the first bytes of out, which has FILE_BYTES bytes.
-pub fn write_job(p: u32, n: u32, s: u32, d: &[u32], series: &[u32], out: &mut [u8]) -> WriteAnswer
-    ensures { WriteOutcome p n s d.now series.now out.old (write_says result) out.new }
-{
-    match test_job(p, n, s, d, series, out.len()) {
-        Tested::Passed => write_tested(p, n, s, d, series, out),
-        Tested::Refused(k) => WriteAnswer::Refused(k),
-    }
+    test_job(job, out.len())?;
+    Ok(write_tested(job, out))
 }

@@ -1,24 +1,25 @@
--- The largest job has 2,051 words.
-use mathlib.Core.Path.{sym}
-use Prim.Native.Nat.{◌+◌, ◌≤◌}
-use native.Mathlib.Omega.{arith}
-use lib.ListN.{length, length-replicate}
-use lib.Seq.{length-take-le}
-use Rattle.words.proofs.Sizes.{series_small}
+-- The words gathered are the job's, so that their file is the job's layout.
+use Rattle.std.proofs.Common.{ap, ◌∙◌, List, [], ◌∷◌, ℕ, arith, length}
+use Rattle.field.specs.Answer.{result}
+use Rattle.block.specs.File.{blocks_for, file_of}
+use Rattle.words.specs.Lent.{over}
+use Rattle.jobfile.specs.Job.{lent_job}
+use Rattle.jobfile.specs.Layout.{layout}
+use Rattle.jobfile.proofs.LaidOut.{length_words, blocks_few}
 use Rattle.jobfile.proofs.write_tested.Goals as goal
-use Rattle.jobfile.proofs.write_tested.Goals.{Start}
 
-few : (c : Start) → 3 + length c.args.d.now + length c.args.series.now ≤ 2051
-few c =
+pub write_file-requires-clause-out_room : goal.write_file-requires-clause-out_room
+write_file-requires-clause-out_room c =
+    let job = lent_job c.args.job in
     let a = c.requires.0 in
-    omega (arith, a.type_length, a.series_length, a.n_to, series_small c.args.n c.args.s a.n_to a.s_to)
+    rw (c.gather.ensures, length_words job a) (omega (arith, (blocks_few job a).1))
 
-pub slice_bounds-words-end : goal.slice_bounds-words-end
-slice_bounds-words-end c = few (goal.at.slice_bounds-words-end c).Start
-
-pub slice_bounds-write_words-end : goal.slice_bounds-write_words-end
-slice_bounds-write_words-end c = sym (length-take-le _ _ (rw length-replicate (few (goal.at.slice_bounds-write_words-end c).Start)))
-
-pub write_words-requires : goal.write_words-requires
-write_words-requires c =
-    (c.requires.0, c.requires.1, length-take-le _ _ (rw length-replicate (few (goal.at.write_words-requires c).Start)))
+pub returns : goal.returns
+unfolding layout
+returns c =
+    let lent = c.args.out.now in
+    let wrote = c.write_file.ensures in
+    record {
+      says = ap (λ (m : ℕ). result (m ∷ [])) (wrote.0 ∙ ap (λ (l : List ℕ). blocks_for (length l)) c.gather.ensures);
+      file_written = wrote.1 ∙ ap (λ (l : List ℕ). over (file_of l) lent) c.gather.ensures;
+    }
