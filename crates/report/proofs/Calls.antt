@@ -2,7 +2,7 @@
 use mathlib.Core.Path.{◌≡◌, sym, ◌∙◌}
 use mathlib.Core.Logic.{inl, inr}
 use mathlib.Core.List.{List}
-use Prim.Native.Nat.{ℕ, ◌+◌, ◌*◌, ◌≤◌}
+use Prim.Native.Nat.{ℕ, ◌+◌, ◌*◌, ◌≤◌, ◌<◌}
 use native.Mathlib.Decide.{dec_le}
 use native.Mathlib.Omega.{arith}
 use lib.ListN.{length}
@@ -14,6 +14,7 @@ use Rattle.report.specs.declared.TextAnswer.{TextAnswer}
 use Rattle.report.specs.Calls.{text_says, text_bytes, basis_text_order, refusal_text_order, TextOutcome, BasisTextOutcome, RefusalTextOutcome}
 
 pub record Passed (n s types words bytes : ℕ) : Type 0 where
+  pub some : 0 < n
   pub rows : n ≤ 8
   pub order : s ≤ 255
   pub typed : types ≡ n
@@ -23,6 +24,7 @@ pub record Passed (n s types words bytes : ℕ) : Type 0 where
 pub basis_passed : (n s types words bytes : ℕ) → NoTest (basis_text_order n s types words bytes) → Passed n s types words bytes
 unfolding NoTest
 basis_passed n s types words bytes h = record {
+  some = elim (dec_le 1 n) [ yes y ↦ y | no y ↦ absurd (h.0 (inl (omega arith))) ];
   rows = elim (dec_le n 8) [ yes y ↦ y | no y ↦ absurd (h.0 (inr (omega arith))) ];
   order = elim (dec_le s 255) [ yes y ↦ y | no y ↦ absurd (h.1.0 (omega arith)) ];
   typed = same_of types n (λ e. h.1.1.0 (inl e));

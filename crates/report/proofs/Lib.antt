@@ -2,6 +2,7 @@
 pub mod Wrote
 pub mod Appended
 pub mod Chunks
+pub mod Rows
 pub mod Decimal
 pub mod Signed
 pub mod Entry

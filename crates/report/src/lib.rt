@@ -120,11 +120,12 @@ impl Writer<'_> {
     }
 
     fn put_rows(&mut self, w: usize, d: &[u32], basis: &[u32])
-        requires { (length d.now ≤ 8) × (0 < w) × (w ≤ 256) × (length basis.now ≡ length d.now * (length d.now * w)) × RoomFor (row_lines (length d.now) w d.now basis.now) self.old }
+        requires { (length d.now ≤ 8) × (0 < length d.now) × (0 < w) × (w ≤ 256) × (length basis.now ≡ length d.now * (length d.now * w)) × RoomFor (row_lines (length d.now) w d.now basis.now) self.old }
         ensures { Appended (row_lines (length d.now) w d.now basis.now) self.old self.new }
     {
-        for (i, entry) in d.iter().enumerate() {
-            self.put_row(i, words::part_at(basis, i, d.len() * w), w, *entry);
+        let rows = basis.chunks_exact(d.len() * w);
+        for (i, (row, entry)) in rows.zip(d).enumerate() {
+            self.put_row(i, row, w, *entry);
         }
     }
 
@@ -158,7 +159,7 @@ impl Writer<'_> {
     }
 
     fn put_basis(&mut self, of: JobSizes, d: &[u32], basis: &[u32], least: u32)
-        requires { (of.n ≤ 8) × (of.s ≤ 255) × (length d.now ≡ of.n) × (length basis.now ≡ of.n * (of.n * (of.s + 1))) × RoomFor (basis_text of.p of.n of.s d.now basis.now least) self.old }
+        requires { (0 < of.n) × (of.n ≤ 8) × (of.s ≤ 255) × (length d.now ≡ of.n) × (length basis.now ≡ of.n * (of.n * (of.s + 1))) × RoomFor (basis_text of.p of.n of.s d.now basis.now least) self.old }
         ensures { Appended (basis_text of.p of.n of.s d.now basis.now least) self.old self.new }
     {
         self.put_heading(of, d);

@@ -35,7 +35,7 @@ passes c typed filled =
 pub put_basis-requires : goal.put_basis-requires
 put_basis-requires c =
     let b = passes (goal.at.put_basis-requires c).In-Passed (λ k. (c.type_inv.d k).fits) (λ k. (c.type_inv.basis k).fits) in
-    (b.0.rows, b.0.order, b.0.typed, b.0.filled, b.1)
+    (b.0.some, b.0.rows, b.0.order, b.0.typed, b.0.filled, b.1)
 
 pub returns-in-Passed : goal.returns-in-Passed
 unfolding BasisTextOutcome

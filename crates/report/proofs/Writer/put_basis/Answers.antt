@@ -15,11 +15,11 @@ put_rows-requires c = search (pieces, arith)
 pub put_numbered-requires : goal.put_numbered-requires
 unfolding basis_text
 put_numbered-requires c =
-    let rows = rw c.requires.2 at c.put_rows.ensures in
+    let rows = rw c.requires.3 at c.put_rows.ensures in
     search pieces
 
 pub returns : goal.returns
 unfolding basis_text
 returns c =
-    let rows = rw c.requires.2 at c.put_rows.ensures in
+    let rows = rw c.requires.3 at c.put_rows.ensures in
     search pieces
