@@ -1,51 +1,20 @@
--- Words without high zeros: a high zero changes nothing, and what is left stands in front.
+-- Words without high zeros: what is left stands in front, and ends with the last word that is not zero.
 use mathlib.Core.Path.{◌≡◌, refl, ap, ◌∙◌}
-use mathlib.Core.List.{List, [], ◌∷◌, ◌++◌}
-use Prim.Native.Nat.{ℕ, zero, suc, ◌+◌, ◌-◌, ◌≤◌, ◌<◌}
+use mathlib.Core.List.{List, [], ◌∷◌}
+use Prim.Native.Nat.{ℕ, zero, suc, ◌+◌, ◌≤◌, ◌<◌}
 use native.Mathlib.Omega.{arith}
 use Rattle.std.specs.Prelude.{Option, None, Some, MatchOption}
-use lib.ListN.{length, take, get_or, length-append, length-take}
-use lib.Seq.{take-suc, length-take-le}
+use lib.ListN.{length, take, get_or, length-take}
 use Rattle.report.specs.Entry.{keep, trim, or_zero, shown, degree}
-
-trim_zero : (l : List ℕ) → trim (l ++ (0 ∷ [])) ≡ trim l
-unfolding trim keep
-trim_zero [] = refl
-trim_zero (c ∷ l) = ap (keep c) (trim_zero l)
 
 keep_cons : (c : ℕ) (l : List ℕ) → 0 < length l → keep c l ≡ c ∷ l
 unfolding keep
 keep_cons c [] h = absurd (omega arith)
 keep_cons c (x ∷ l) h = refl
 
-trim_last : (l : List ℕ) (c : ℕ) → 0 < c → trim (l ++ (c ∷ [])) ≡ l ++ (c ∷ [])
-unfolding trim keep
-trim_last [] zero h = absurd (omega arith)
-trim_last [] (suc c) h = refl
-trim_last (x ∷ l) c h = ap (keep x) (trim_last l c h) ∙ keep_cons x (l ++ (c ∷ [])) (omega (arith, length-append l (c ∷ [])))
-
 positive : (c : ℕ) → (c ≡ 0 → ⊥) → 0 < c
 positive zero f = absurd (f refl)
 positive (suc c) f = omega arith
-
--- a loop from the last word down
-pub trim_turn : (l : List ℕ) (k : ℕ) → 0 < k → k ≤ length l → get_or l (k - 1) 0 ≡ 0 → trim (take k l) ≡ trim (take (k - 1) l)
-trim_turn l zero h g z = absurd (omega arith)
-trim_turn l (suc j) h g z =
-    let e : suc j - 1 ≡ j = omega arith in
-    let f : get_or l j 0 ≡ 0 = rw e at z in
-    rw (e, take-suc l j 0 (omega arith), f) (trim_zero (take j l))
-
-pub trim_stop : (l : List ℕ) (k : ℕ) → 0 < k → k ≤ length l → (get_or l (k - 1) 0 ≡ 0 → ⊥) → length (trim (take k l)) ≡ k
-trim_stop l zero h g z = absurd (omega arith)
-trim_stop l (suc j) h g z =
-    let e : suc j - 1 ≡ j = omega arith in
-    let f : get_or l j 0 ≡ 0 → ⊥ = rw e at z in
-    rw (take-suc l j 0 (omega arith), trim_last (take j l) (get_or l j 0) (positive (get_or l j 0) f)) (omega (arith, length-append (take j l) (get_or l j 0 ∷ []), length-take-le j l (omega arith)))
-
-pub trim_none : (l : List ℕ) (k : ℕ) → k ≡ 0 → length (trim (take k l)) ≡ k
-unfolding trim
-trim_none l k e = rw e
 
 front : (c : ℕ) (l t : List ℕ) → t ≡ take (length t) l → keep c t ≡ take (length (keep c t)) (c ∷ l)
 unfolding keep

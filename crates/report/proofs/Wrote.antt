@@ -1,16 +1,16 @@
 -- Appending texts: one after the other is their join, and there is room for each where there is room for the join.
---   wrote_none, wrote_byte, wrote_append, wrote_same     what is written
---   room_first, room_rest, wrote_length                  what is left of the buffer
---   wrote_turn, room_turn, wrote_each, room_each         the same for loops
---   wrote_whole                                          a text at the start
+--   wrote_none, wrote_append, wrote_same     what is written
+--   room_first, room_rest, wrote_length      what is left of the buffer
+--   wrote_each, room_each                    the same for loops
+--   wrote_whole                              a text at the start
 use mathlib.Core.Path.{◌≡◌, refl, sym, ap, ◌∙◌, subst}
 use mathlib.Core.List.{List, [], ◌∷◌, ◌++◌}
 use Prim.Native.Nat.{ℕ, zero, suc, ◌+◌, ◌≤◌, ◌<◌}
 use native.Mathlib.Nat.{add-zero}
 use native.Mathlib.Numerals.{add-one}
 use native.Mathlib.Omega.{arith}
-use lib.ListN.{length, take, drop, get_or, set, length-append}
-use lib.Seq.{sets, length-sets, sets-eq, take-suc, length-take-le}
+use lib.ListN.{length, drop, set, length-append}
+use lib.Seq.{sets, length-sets, sets-eq}
 use Rattle.field.specs.Answer.{result}
 use Rattle.report.specs.Each.{each}
 use Rattle.report.specs.Wrote.{Room, Wrote}
@@ -37,9 +37,6 @@ module _ {a x y : List ℕ} {at m : ℕ} where
 pub wrote_none : (x : List ℕ) (at : ℕ) → Wrote [] x at x at
 wrote_none x at = record { position = omega arith; bytes = refl }
 
-pub wrote_byte : (x : List ℕ) (at b : ℕ) → Wrote (b ∷ []) x at (set x at b) (at + 1)
-wrote_byte x at b = record { position = refl; bytes = refl }
-
 pub room_first : (a b : List ℕ) {x : List ℕ} {at : ℕ} → Room (a ++ b) x at → Room a x at
 room_first a b h = record { fits = omega (arith, h.fits, length-append a b) }
 
@@ -49,13 +46,6 @@ room_same {x = x} {at = at} e h = subst (λ (t : List ℕ). Room t x at) e h
 
 pub wrote_same : {a b x y : List ℕ} {at m : ℕ} → a ≡ b → Wrote a x at y m → Wrote b x at y m
 wrote_same {x = x} {y = y} {at = at} {m = m} e w = subst (λ (t : List ℕ). Wrote t x at y m) e w
-
--- a loop that appends a text byte by byte
-pub wrote_turn : (text : List ℕ) {x y : List ℕ} {at m : ℕ} (k : ℕ) → k < length text → Wrote (take k text) x at y m → Wrote (take (k + 1) text) x at (set y m (get_or text k 0)) (m + 1)
-wrote_turn text k h w = rw (add-one k, take-suc text k 0 h) (wrote_append w (wrote_byte _ _ _))
-
-pub room_turn : (text : List ℕ) {x y : List ℕ} {at m : ℕ} (k : ℕ) → k < length text → Room text x at → Wrote (take k text) x at y m → m < length y
-room_turn text k h r w = omega (arith, length-take-le k text (omega arith), wrote_length w, w.position)
 
 -- a loop that appends f k in turn k
 pub wrote_each : (f : ℕ → List ℕ) {x y z : List ℕ} {at m r : ℕ} (k : ℕ) → Wrote (each f k) x at y m → Wrote (f k) y m z r → Wrote (each f (k + 1)) x at z r

@@ -1,13 +1,14 @@
 -- The calls that write a text: what each case of their answer says, the order of their refusals, and their outcomes.
-use Rattle.std.specs.Prelude.{◌≡◌, ◌⊎◌, ◌≢◌, List, [], ◌∷◌, ◌++◌, ℕ, ◌+◌, ◌*◌, ◌<◌, length, drop}
+use Rattle.std.specs.Prelude.{◌≡◌, ◌⊎◌, ◌≢◌, List, [], ◌∷◌, ◌++◌, ℕ, ◌+◌, ◌*◌, ◌<◌, length, drop, Result, Ok, Err}
 use Rattle.field.specs.Refusal.{Order, ◌when◌, Outcome}
 use Rattle.field.specs.Answer.{Answer, result, refusal}
-use Rattle.report.specs.declared.TextAnswer.{TextAnswer}
+use Rattle.field.specs.Number.{number_of}
+use Rattle.field.specs.declared.Refusal.{Refusal}
 use Rattle.report.specs.Text.{basis_text, refusal_text}
 
-abbrev pub text_says : TextAnswer → Answer
-text_says (TextAnswer.Length n) = result (n ∷ [])
-text_says (TextAnswer.Refused k) = refusal k
+abbrev pub text_says : Result ℕ Refusal → Answer
+text_says (Ok n) = result (n ∷ [])
+text_says (Err e) = refusal (number_of e)
 
 -- how many bytes every text fits: 11 for each number, at 8 rows of 8 entries of 256 words
 abbrev pub text_bytes : ℕ

@@ -10,17 +10,11 @@ ghost use Rattle.report.specs.Appended.{RoomFor, Appended};
 ghost use Rattle.report.specs.Calls.{text_says, basis_text_order, BasisTextOutcome, RefusalTextOutcome};
 
 use degree::{Degree, ShiftedDegree};
-use field::Tested;
+use field::Refusal;
 use sizes::JobSizes;
 
 // Every text fits: 11 bytes for each number, at 8 rows of 8 entries of 256 words.
 pub const TEXT: usize = 180_809;
-
-#[derive(Clone, Copy)]
-pub enum TextAnswer {
-    Length(usize),
-    Refused(u32),
-}
 
 // Appends texts to a lent buffer: the next byte goes to position `at`.
 #[derive(Drop)]
@@ -182,21 +176,20 @@ fn degree_of(entry: &[u32]) -> Degree
 }
 
 // The tests of a call that writes a basis.
-fn test_basis(n: u32, s: u32, types: usize, words: usize, bytes: usize) -> Tested
+fn test_basis(n: u32, s: u32, types: usize, words: usize, bytes: usize) -> Result<(), Refusal>
     ensures { Tests (basis_text_order n s types words bytes) result }
 {
-    if n < 1 || n > 8 {
-        return Tested::Refused(2);
+    if !(1..=8).contains(&n) {
+        return Err(Refusal::Count);
     }
     if s > 255 {
-        return Tested::Refused(3);
+        return Err(Refusal::Order);
     }
-    let count = n as usize;
-    let size = count * (count * (s as usize + 1));
-    if types != count || words != size || bytes != TEXT {
-        return Tested::Refused(4);
+    let rows = n as usize;
+    if types != rows || words != rows * (rows * (s as usize + 1)) || bytes != TEXT {
+        return Err(Refusal::Length);
     }
-    Tested::Passed
+    Ok(())
 }
 
 // The text of a basis: p, n, s, the type, the basis words and the least row's number, from 1.
@@ -208,27 +201,23 @@ pub fn write_basis(
     basis: &[u32],
     least: u32,
     out: &mut [u8],
-) -> TextAnswer
+) -> Result<usize, Refusal>
     ensures { BasisTextOutcome p n s d.now basis.now least out.old out.new (text_says result) }
 {
-    match test_basis(n, s, d.len(), basis.len(), out.len()) {
-        Tested::Passed => {
-            let mut text = Writer { out, at: 0 };
-            text.put_basis(JobSizes { p, n, s }, d, basis, least);
-            TextAnswer::Length(text.at)
-        }
-        Tested::Refused(k) => TextAnswer::Refused(k),
-    }
+    test_basis(n, s, d.len(), basis.len(), out.len())?;
+    let mut text = Writer { out, at: 0 };
+    text.put_basis(JobSizes { p, n, s }, d, basis, least);
+    Ok(text.at)
 }
 
 // The text of a refusal.
-pub fn write_refusal(k: u32, out: &mut [u8]) -> TextAnswer
+pub fn write_refusal(k: u32, out: &mut [u8]) -> Result<usize, Refusal>
     ensures { RefusalTextOutcome k out.old out.new (text_says result) }
 {
     if out.len() != TEXT {
-        return TextAnswer::Refused(4);
+        return Err(Refusal::Length);
     }
     let mut text = Writer { out, at: 0 };
     text.put_numbered(b"refused", k);
-    TextAnswer::Length(text.at)
+    Ok(text.at)
 }
