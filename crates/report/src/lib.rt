@@ -82,6 +82,7 @@ impl Writer<'_> {
         }
     }
 
+    // The entries of w words that a row is cut into.
     fn put_entries(&mut self, row: &[u32], w: usize)
         requires { (0 < w) × RoomFor (entries_text (length row.now / w) w row.now) self.old }
         ensures { Appended (entries_text (length row.now / w) w row.now) self.old self.new }
@@ -123,21 +124,21 @@ impl Writer<'_> {
         }
     }
 
-    fn put_sizes(&mut self, of: JobSizes)
-        requires { RoomFor (sizes of.p of.n of.s) self.old }
-        ensures { Appended (sizes of.p of.n of.s) self.old self.new }
+    fn put_sizes(&mut self, job: JobSizes)
+        requires { RoomFor (sizes job.p job.n job.s) self.old }
+        ensures { Appended (sizes job.p job.n job.s) self.old self.new }
     {
         self.put(b"relations");
-        self.put_number(of.p as u64);
-        self.put_number(of.n as u64);
-        self.put_number(of.s as u64);
+        self.put_number(job.p as u64);
+        self.put_number(job.n as u64);
+        self.put_number(job.s as u64);
     }
 
-    fn put_heading(&mut self, of: JobSizes, d: &[u32])
-        requires { RoomFor (heading of.p of.n of.s d.now) self.old }
-        ensures { Appended (heading of.p of.n of.s d.now) self.old self.new }
+    fn put_heading(&mut self, job: JobSizes, d: &[u32])
+        requires { RoomFor (heading job.p job.n job.s d.now) self.old }
+        ensures { Appended (heading job.p job.n job.s d.now) self.old self.new }
     {
-        self.put_sizes(of);
+        self.put_sizes(job);
         self.put(b" type");
         self.put_numbers(d);
         self.put(b"\n");
@@ -152,12 +153,12 @@ impl Writer<'_> {
         self.put(b"\n");
     }
 
-    fn put_basis(&mut self, of: JobSizes, d: &[u32], basis: &[u32], least: u32)
-        requires { (0 < of.n) × (of.n ≤ 8) × (of.s ≤ 255) × (length d.now ≡ of.n) × (length basis.now ≡ of.n * (of.n * (of.s + 1))) × RoomFor (basis_text of.p of.n of.s d.now basis.now least) self.old }
-        ensures { Appended (basis_text of.p of.n of.s d.now basis.now least) self.old self.new }
+    fn put_basis(&mut self, job: JobSizes, d: &[u32], basis: &[u32], least: u32)
+        requires { (0 < job.n) × (job.n ≤ 8) × (job.s ≤ 255) × (length d.now ≡ job.n) × (length basis.now ≡ job.n * (job.n * (job.s + 1))) × RoomFor (basis_text job.p job.n job.s d.now basis.now least) self.old }
+        ensures { Appended (basis_text job.p job.n job.s d.now basis.now least) self.old self.new }
     {
-        self.put_heading(of, d);
-        self.put_rows(of.s as usize + 1, d, basis);
+        self.put_heading(job, d);
+        self.put_rows(job.s as usize + 1, d, basis);
         self.put_numbered(b"least", least);
     }
 }
