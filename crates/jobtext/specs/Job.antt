@@ -1,8 +1,8 @@
 -- Job: the job of a text: p, n, s, the n type entries, then n * s coefficients, and nothing more; or the first thing that is wrong, with its line.
-use Rattle.std.specs.Prelude.{Bool, true, false, cond, List, [], ◌∷◌, ℕ, zero, suc, ◌*◌, ltb, leb}
+use Rattle.std.specs.Prelude.{Bool, true, false, cond, List, [], ◌∷◌, ℕ, zero, suc, ◌*◌, ltb, leb, Ok, Err}
 use Rattle.field.specs.ModulusTest.{is_modulus}
 use Rattle.sizes.specs.Entry.{is_entry}
-use Rattle.tokens.specs.declared.Numeral.{Numeral}
+use Rattle.tokens.specs.declared.NumeralError.{NumeralError}
 use Rattle.jobtext.specs.declared.Slip.{Slip}
 use Rattle.tokens.specs.Tokens.{Tokens, text_end, word, tokens}
 use Rattle.tokens.specs.Number.{numeral_of}
@@ -11,6 +11,11 @@ pub data JobText : Type 0 where
   job : ℕ → ℕ → ℕ → List ℕ → List ℕ → JobText
   wrong : Slip → ℕ → JobText
 
+-- what is wrong where a word is no number of 32 bits
+abbrev pub slip_of : NumeralError → Slip
+slip_of NumeralError.NotNumber = Slip.NotNumber
+slip_of NumeralError.TooLarge = Slip.TooLarge
+
 -- a number that passes the test, and go on with it; one that does not is the slip
 unfoldable pub tested : (ℕ → Bool) → Slip → (ℕ → Tokens → JobText) → ℕ → ℕ → Tokens → JobText
 tested ok slip go v l t = elim (ok v) [ true ↦ go v t | false ↦ wrong slip l ]
@@ -18,9 +23,8 @@ tested ok slip go v l t = elim (ok v) [ true ↦ go v t | false ↦ wrong slip l
 unfoldable pub one_number : (ℕ → Bool) → Slip → (ℕ → Tokens → JobText) → Tokens → JobText
 one_number ok slip go (text_end l) = wrong Slip.EndsEarly l
 one_number ok slip go (word l w t) = elim (numeral_of w) [
-  | Numeral.Is v ↦ tested ok slip go v l t
-  | Numeral.NotNumber ↦ wrong Slip.NotNumber l
-  | Numeral.TooLarge ↦ wrong Slip.TooLarge l
+  | Ok v ↦ tested ok slip go v l t
+  | Err e ↦ wrong (slip_of e) l
 ]
 
 -- k numbers that pass the test

@@ -1,21 +1,21 @@
-// The text job: a plain text with the numbers of a job, for people. Parts of the parser answer where they stopped.
+// The text job: a plain text with the numbers of a job, for people.
 #![tactic(auto)]
 
 ghost use Rattle.std.specs.Prelude.{◌≡◌, ◌++◌, ◌≤◌, length, drop};
-ghost use Rattle.report.specs.Wrote.{Room, Wrote};
-ghost use Rattle.tokens.specs.Tokens.{rest};
-ghost use Rattle.tokens.specs.Taking.{Position};
-ghost use Rattle.jobtext.specs.Job.{job_of_text, from_count, from_order, from_type, from_series, is_below, at_end, job};
+ghost use Rattle.report.specs.Appended.{RoomFor, Appended};
+ghost use Rattle.field.specs.ModulusTest.{is_modulus};
+ghost use Rattle.tokens.specs.Taking.{IsPosition};
+ghost use Rattle.jobtext.specs.Job.{job_of_text, slip_of, is_count, is_below};
 ghost use Rattle.jobtext.specs.Message.{moduli_words, slip_words, message};
-ghost use Rattle.jobtext.specs.Reading.{Takes, Fills, Follows};
+ghost use Rattle.jobtext.specs.Reading.{ahead, fault_at, Takes, Passes, Fills, Ends, Follows};
 
 use field::Field;
-use report::{put, put_number};
+use report::Writer;
 use sizes::JobSizes;
-use tokens::{Numeral, Taken};
+use tokens::{End, NumeralError, Position};
 
 // What is wrong with a text job. The last five are the refusals 1, 2, 3, 5 and 6 of document 01.
-#[derive(Clone, Copy)]
+#[derive(Clone, Copy, Debug, PartialEq, Eq)]
 pub enum Slip {
     NotNumber,
     TooLarge,
@@ -28,316 +28,198 @@ pub enum Slip {
     Coefficient,
 }
 
-// The next number with its line, and the position after it; or what is wrong.
-#[derive(Clone, Copy)]
-pub enum Next {
-    Number { value: u32, at: usize, line: usize },
-    Wrong { slip: Slip, line: usize },
+// What is wrong, and on which line.
+#[derive(Clone, Copy, Debug, PartialEq, Eq)]
+pub struct Fault {
+    pub slip: Slip,
+    pub line: usize,
 }
 
-// The position after the numbers that were asked for; or what is wrong.
-#[derive(Clone, Copy)]
-pub enum Reached {
-    At { at: usize, line: usize },
-    Wrong { slip: Slip, line: usize },
+impl From<NumeralError> for Slip {
+    ghost from_gives = { λ e slip. slip ≡ slip_of e };
+
+    fn from(e: NumeralError) -> Slip {
+        match e {
+            NumeralError::NotNumber => Slip::NotNumber,
+            NumeralError::TooLarge => Slip::TooLarge,
+        }
+    }
 }
 
-#[derive(Clone, Copy)]
-pub enum Parsed {
-    Job(JobSizes),
-    Wrong { slip: Slip, line: usize },
-}
+impl From<End> for Fault {
+    ghost use Rattle.jobtext.specs.declared.Slip.{Slip};
 
-fn take_number(text: &[u8], at: usize, line: usize) -> Next
-    requires { Position text.now at line }
-    ensures { Takes text.now (rest text.now at line) result }
-{
-    match tokens::take_word(text, at, line) {
-        Taken::Word { from, to, line: on } => match tokens::read_numeral(&text[from..to]) {
-            Numeral::Is(value) => Next::Number {
-                value,
-                at: to,
-                line: on,
-            },
-            Numeral::NotNumber => Next::Wrong {
-                slip: Slip::NotNumber,
-                line: on,
-            },
-            Numeral::TooLarge => Next::Wrong {
-                slip: Slip::TooLarge,
-                line: on,
-            },
-        },
-        Taken::End { line: on } => Next::Wrong {
+    ghost from_gives = { λ end fault. fault ≡ fault_at Slip.EndsEarly end.line };
+
+    fn from(end: End) -> Fault {
+        Fault {
             slip: Slip::EndsEarly,
-            line: on,
-        },
-    }
-}
-
-// As many numbers as out has places, each below the limit.
-fn read_numbers(
-    text: &[u8],
-    at: usize,
-    line: usize,
-    limit: u32,
-    slip: Slip,
-    out: &mut [u32],
-) -> Reached
-    requires { Position text.now at line }
-    ensures { Fills text.now (rest text.now at line) (is_below limit) slip out.new result }
-{
-    let mut here = at;
-    let mut count = line;
-    let mut k = 0;
-    while k < out.len() {
-        match take_number(text, here, count) {
-            Next::Number {
-                value,
-                at: after,
-                line: on,
-            } => {
-                if value >= limit {
-                    return Reached::Wrong { slip, line: on };
-                }
-                out[k] = value;
-                here = after;
-                count = on;
-                k += 1;
-            }
-            Next::Wrong {
-                slip: found,
-                line: on,
-            } => {
-                return Reached::Wrong {
-                    slip: found,
-                    line: on,
-                };
-            }
-        }
-    }
-    Reached::At {
-        at: here,
-        line: count,
-    }
-}
-
-// After the last coefficient: nothing more, and the buffers are written.
-fn finish(
-    text: &[u8],
-    at: usize,
-    line: usize,
-    p: u32,
-    n: u32,
-    s: u32,
-    d: &[u32],
-    f: &[u32],
-    types: &mut [u32],
-    series: &mut [u32],
-) -> Parsed
-    requires { Position text.now at line × (length d.now ≤ length types.old) × (length f.now ≤ length series.old) }
-    ensures { Follows (at_end (job p n s d.now f.now) (rest text.now at line)) result types.old types.new series.old series.new }
-{
-    match tokens::take_word(text, at, line) {
-        Taken::Word {
-            from: _,
-            to: _,
-            line: on,
-        } => Parsed::Wrong {
-            slip: Slip::TooMany,
-            line: on,
-        },
-        Taken::End { line: _ } => {
-            let entries = d.len();
-            let coefficients = f.len();
-            words::copy(d, &mut types[..entries]);
-            words::copy(f, &mut series[..coefficients]);
-            Parsed::Job(JobSizes { p, n, s })
+            line: end.line,
         }
     }
 }
 
-// After the type: the coefficients, which are kept apart until the text is known to be right.
-fn read_series(
-    text: &[u8],
-    at: usize,
-    line: usize,
-    p: u32,
-    n: u32,
-    s: u32,
-    d: &[u32],
-    types: &mut [u32; 8],
-    series: &mut [u32; 2040],
-) -> Parsed
-    requires { Position text.now at line × (n ≤ 8) × (s ≤ 255) × (length d.now ≤ 8) }
-    ensures { Follows (from_series p n s d.now (rest text.now at line)) result types.old types.new series.old series.new }
-{
-    let mut f = [0u32; 2040];
-    let size = n as usize * s as usize;
-    match read_numbers(text, at, line, p, Slip::Coefficient, &mut f[..size]) {
-        Reached::At {
-            at: after,
-            line: on,
-        } => finish(text, after, on, p, n, s, d, &f[..size], types, series),
-        Reached::Wrong { slip, line: on } => Parsed::Wrong { slip, line: on },
-    }
+// A text, and how far it is read.
+#[derive(Drop)]
+struct Reader<'a> {
+    text: &'a [u8],
+    here: Position,
+    ghost inside: { IsPosition text.now here },
 }
 
-// After s: the type entries.
-fn read_type(
-    text: &[u8],
-    at: usize,
-    line: usize,
-    p: u32,
-    n: u32,
-    s: u32,
-    types: &mut [u32; 8],
-    series: &mut [u32; 2040],
-) -> Parsed
-    requires { Position text.now at line × (n ≤ 8) × (s ≤ 255) }
-    ensures { Follows (from_type p n s (rest text.now at line)) result types.old types.new series.old series.new }
-{
-    let mut d = [0u32; 8];
-    let count = n as usize;
-    match read_numbers(text, at, line, 256, Slip::Entry, &mut d[..count]) {
-        Reached::At {
-            at: after,
-            line: on,
-        } => read_series(text, after, on, p, n, s, &d[..count], types, series),
-        Reached::Wrong { slip, line: on } => Parsed::Wrong { slip, line: on },
-    }
-}
+impl Reader<'_> {
+    ghost use Rattle.jobtext.specs.declared.Slip.{Slip};
 
-// After n: the order s.
-fn read_order(
-    text: &[u8],
-    at: usize,
-    line: usize,
-    p: u32,
-    n: u32,
-    types: &mut [u32; 8],
-    series: &mut [u32; 2040],
-) -> Parsed
-    requires { Position text.now at line × (n ≤ 8) }
-    ensures { Follows (from_order p n (rest text.now at line)) result types.old types.new series.old series.new }
-{
-    match take_number(text, at, line) {
-        Next::Number {
-            value,
-            at: after,
-            line: on,
-        } => {
-            if value >= 256 {
-                return Parsed::Wrong {
-                    slip: Slip::Order,
-                    line: on,
-                };
-            }
-            read_type(text, after, on, p, n, value, types, series)
+    // What is wrong with the number that was read last.
+    fn fault(&self, slip: Slip) -> Fault
+        ensures { result ≡ fault_at slip self.now.here.line }
+    {
+        Fault {
+            slip,
+            line: self.here.line,
         }
-        Next::Wrong { slip, line: on } => Parsed::Wrong { slip, line: on },
     }
-}
 
-// After p: the number of series n.
-fn read_count(
-    text: &[u8],
-    at: usize,
-    line: usize,
-    p: u32,
-    types: &mut [u32; 8],
-    series: &mut [u32; 2040],
-) -> Parsed
-    requires { Position text.now at line }
-    ensures { Follows (from_count p (rest text.now at line)) result types.old types.new series.old series.new }
-{
-    match take_number(text, at, line) {
-        Next::Number {
-            value,
-            at: after,
-            line: on,
-        } => {
-            if value < 1 {
-                return Parsed::Wrong {
-                    slip: Slip::Count,
-                    line: on,
-                };
-            }
-            if value > 8 {
-                return Parsed::Wrong {
-                    slip: Slip::Count,
-                    line: on,
-                };
-            }
-            read_order(text, after, on, p, value, types, series)
+    fn number(&mut self) -> Result<u32, Fault>
+        ensures { Takes (ahead self.old.text.now self.old.here) result self.new.here.line (ahead self.new.text.now self.new.here) }
+    {
+        let word = tokens::take_word(self.text, self.here)?;
+        self.here = Position {
+            at: word.to,
+            line: word.line,
+        };
+        match tokens::read_numeral(&self.text[word.from..word.to]) {
+            Ok(value) => Ok(value),
+            Err(e) => Err(self.fault(e.into())),
         }
-        Next::Wrong { slip, line: on } => Parsed::Wrong { slip, line: on },
+    }
+
+    fn modulus(&mut self) -> Result<u32, Fault>
+        ensures { Passes is_modulus Slip.Modulus (ahead self.old.text.now self.old.here) result (ahead self.new.text.now self.new.here) }
+    {
+        let p = self.number()?;
+        if Field::admits(p) {
+            Ok(p)
+        } else {
+            Err(self.fault(Slip::Modulus))
+        }
+    }
+
+    fn count(&mut self) -> Result<u32, Fault>
+        ensures { Passes is_count Slip.Count (ahead self.old.text.now self.old.here) result (ahead self.new.text.now self.new.here) }
+    {
+        let n = self.number()?;
+        if (1..=8).contains(&n) {
+            Ok(n)
+        } else {
+            Err(self.fault(Slip::Count))
+        }
+    }
+
+    fn below(&mut self, limit: u32, slip: Slip) -> Result<u32, Fault>
+        ensures { Passes (is_below limit) slip (ahead self.old.text.now self.old.here) result (ahead self.new.text.now self.new.here) }
+    {
+        let value = self.number()?;
+        if value < limit {
+            Ok(value)
+        } else {
+            Err(self.fault(slip))
+        }
+    }
+
+    // As many numbers as out has places, each below the limit.
+    fn numbers(&mut self, limit: u32, slip: Slip, out: &mut [u32]) -> Result<(), Fault>
+        ensures { Fills (is_below limit) slip (ahead self.old.text.now self.old.here) out.new result (ahead self.new.text.now self.new.here) }
+    {
+        for value in out.iter_mut() {
+            *value = self.below(limit, slip)?;
+        }
+        Ok(())
+    }
+
+    // Nothing more.
+    fn end(&self) -> Result<(), Fault>
+        ensures { Ends (ahead self.now.text.now self.now.here) result }
+    {
+        match tokens::take_word(self.text, self.here) {
+            Ok(word) => Err(Fault {
+                slip: Slip::TooMany,
+                line: word.line,
+            }),
+            Err(_) => Ok(()),
+        }
     }
 }
 
 // The job of a text: p, n and s are answered, the type and the series written to the lent buffers; or what is wrong and on which line, and nothing is written.
-pub fn parse(text: &[u8], types: &mut [u32; 8], series: &mut [u32; 2040]) -> Parsed
+pub fn parse(text: &[u8], types: &mut [u32; 8], series: &mut [u32; 2040]) -> Result<JobSizes, Fault>
     ensures { Follows (job_of_text text.now) result types.old types.new series.old series.new }
 {
-    match take_number(text, 0, 1) {
-        Next::Number {
-            value,
-            at: after,
-            line: on,
-        } => {
-            if Field::admits(value) {
-                read_count(text, after, on, value, types, series)
-            } else {
-                Parsed::Wrong {
-                    slip: Slip::Modulus,
-                    line: on,
-                }
-            }
-        }
-        Next::Wrong { slip, line: on } => Parsed::Wrong { slip, line: on },
-    }
+    let mut reader = Reader {
+        text,
+        here: Position { at: 0, line: 1 },
+    };
+    let p = reader.modulus()?;
+    let n = reader.count()?;
+    let s = reader.below(256, Slip::Order)?;
+    // The type and the series are kept apart until the text is known to be right.
+    let entries = n as usize;
+    let mut d = [0u32; 8];
+    reader.numbers(256, Slip::Entry, &mut d[..entries])?;
+    let coefficients = entries * s as usize;
+    let mut f = [0u32; 2040];
+    reader.numbers(p, Slip::Coefficient, &mut f[..coefficients])?;
+    reader.end()?;
+    types[..entries].copy_from_slice(&d[..entries]);
+    series[..coefficients].copy_from_slice(&f[..coefficients]);
+    Ok(JobSizes { p, n, s })
 }
 
 // Which moduli are admitted.
-fn put_moduli(out: &mut [u8], at: usize) -> usize
-    requires { Room moduli_words out.old at }
-    ensures { Wrote moduli_words out.old at out.new result }
+#[tactic(auto, unfolding(crate::specs::Message::moduli_words))]
+fn put_moduli(text: &mut Writer<'_>)
+    requires { RoomFor moduli_words text.old }
+    ensures { Appended moduli_words text.old text.new }
 {
-    let named = put(b"the modulus p must be a prime from 2 to", out, at);
-    put_number(Field::LARGEST as u64, out, named)
+    text.put(b"the modulus p must be a prime from 2 to");
+    text.put_number(Field::LARGEST as u64);
 }
 
-fn put_words(slip: Slip, out: &mut [u8], at: usize) -> usize
-    requires { Room (slip_words slip) out.old at }
-    ensures { Wrote (slip_words slip) out.old at out.new result }
+#[tactic(auto, unfolding(crate::specs::Message::slip_words))]
+fn put_words(text: &mut Writer<'_>, slip: Slip)
+    requires { RoomFor (slip_words slip) text.old }
+    ensures { Appended (slip_words slip) text.old text.new }
 {
     match slip {
-        Slip::NotNumber => put(b"this word is no number", out, at),
-        Slip::TooLarge => put(b"this number does not fit 32 bits", out, at),
-        Slip::EndsEarly => put(b"the text ends too early", out, at),
-        Slip::TooMany => put(b"there are more numbers than the job has", out, at),
-        Slip::Modulus => put_moduli(out, at),
-        Slip::Count => put(b"the number of series n must be from 1 to 8", out, at),
-        Slip::Order => put(b"the order s must be from 0 to 255", out, at),
-        Slip::Entry => put(b"a type entry must be from 0 to 255", out, at),
-        Slip::Coefficient => put(b"a coefficient must be below p", out, at),
+        Slip::NotNumber => text.put(b"this word is no number"),
+        Slip::TooLarge => text.put(b"this number does not fit 32 bits"),
+        Slip::EndsEarly => text.put(b"the text ends too early"),
+        Slip::TooMany => text.put(b"there are more numbers than the job has"),
+        Slip::Modulus => put_moduli(text),
+        Slip::Count => text.put(b"the number of series n must be from 1 to 8"),
+        Slip::Order => text.put(b"the order s must be from 0 to 255"),
+        Slip::Entry => text.put(b"a type entry must be from 0 to 255"),
+        Slip::Coefficient => text.put(b"a coefficient must be below p"),
     }
 }
 
-fn put_message(slip: Slip, line: usize, out: &mut [u8]) -> usize
-    requires { Room (message slip line) out.old 0 }
-    ensures { Wrote (message slip line) out.old 0 out.new result }
+fn put_message(text: &mut Writer<'_>, slip: Slip, line: usize)
+    requires { RoomFor (message slip line) text.old }
+    ensures { Appended (message slip line) text.old text.new }
 {
-    let named = put(b"line", out, 0);
-    let counted = put_number(line as u64, out, named);
-    let spaced = put(b": ", out, counted);
-    let said = put_words(slip, out, spaced);
-    put(b"\n", out, said)
+    text.put(b"line");
+    text.put_number(line as u64);
+    text.put(b": ");
+    put_words(text, slip);
+    text.put(b"\n");
 }
 
 // What is wrong, as one line: the line's number, and words. Answers its length.
-pub fn write_message(slip: Slip, line: usize, out: &mut [u8; 128]) -> usize
-    ensures { (result ≡ length (message slip line)) × (out.new ≡ message slip line ++ drop (length (message slip line)) out.old) }
+pub fn write_message(fault: Fault, out: &mut [u8; 128]) -> usize
+    ensures { (result ≡ length (message fault.slip fault.line)) × (out.new ≡ message fault.slip fault.line ++ drop (length (message fault.slip fault.line)) out.old) }
 {
-    put_message(slip, line, out)
+    let Fault { slip, line } = fault;
+    let mut text = Writer { out, at: 0 };
+    put_message(&mut text, slip, line);
+    text.at
 }

@@ -5,7 +5,7 @@ use Rattle.jobtext.proofs.Message.{message_fits}
 use Rattle.jobtext.proofs.write_message.Goals as goal
 
 pub put_message-requires : goal.put_message-requires
-put_message-requires c = record { fits = omega (arith, message_fits c.args.slip c.args.line c.ranges.line.fits) }
+put_message-requires c = record { fits = omega (arith, message_fits c.args.fault.slip c.args.fault.line (omega arith)) }
 
 pub returns : goal.returns
-returns c = wrote_whole (record { fits = omega (arith, message_fits c.args.slip c.args.line c.ranges.line.fits) }) c.put_message.ensures
+returns c = wrote_whole (record { fits = omega (arith, message_fits c.args.fault.slip c.args.fault.line (omega arith)) }) c.put_message.ensures.wrote
