@@ -1,8 +1,8 @@
 // Answers requests from standard input, a line for each (docs/FORMATS.md).
 #![tactic(auto)]
 
-mod call;
-mod fits;
+mod arguments;
+mod fault;
 mod lend;
 mod lines;
 mod request_line;

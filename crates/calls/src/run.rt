@@ -1,265 +1,350 @@
-// The calls, one function each: what is lent, the call, and what it left. v and e are the numbers and ends of a request that fits the call.
-use crate::lend::{FILE, JOB_TEXT, TEXT, WORDS, copy, front_mut, lend, lend_bytes, number};
-use crate::say;
+// The calls, one function each: what is lent, the call, and what it left.
+use crate::arguments::{Kind, Request};
+use crate::fault::{Fault, Stop};
+use crate::lend::{FILE, JOB_TEXT, TEXT, WORDS, lend};
+use crate::say::{Answer, Buffer, with_bytes};
 use field::{Field, FieldAnswer};
-use request::argument;
-use std::io;
 
-pub fn make(out: &impl Print, v: &[u32]) -> io::Result<()> {
-    match Field::make(number(v, 0)) {
-        FieldAnswer::Is(f) => say::one(out, 0, f.modulus),
-        FieldAnswer::Refused(k) => say::one(out, k, 0),
+// Which call it is comes before what is wrong with a word.
+pub fn answer(
+    out: &impl Print,
+    name: &[u8],
+    request: Request,
+    values: &mut [u32],
+) -> Result<(), Stop> {
+    match name {
+        b"make" => make(out, request, values),
+        b"add" => add(out, request, values),
+        b"multiply" => multiply(out, request, values),
+        b"invert" => invert(out, request, values),
+        b"basis" => basis(out, request, values),
+        b"approximant" => approximant(out, request, values),
+        b"bases" => bases(out, request, values),
+        b"pair" => pair(out, request, values),
+        b"row" => row(out, request, values),
+        b"block_checks" => block_checks(out, request, values),
+        b"read" => read(out, request, values),
+        b"write" => write(out, request, values),
+        b"text" => text(out, request, values),
+        b"refused" => refused(out, request, values),
+        b"print" => print(out, request, values),
+        b"parse" => parse(out, request, values),
+        b"parse_line" => parse_line(out, request, values),
+        _ => Err(Stop::from(Fault::NoCall)),
     }
 }
 
-pub fn add(out: &impl Print, v: &[u32]) -> io::Result<()> {
-    let mut answer = [9u32; 1];
-    let told = front_mut(&mut answer, 1);
-    let status = embed::relations_add(number(v, 0), number(v, 1), number(v, 2), told);
-    say::line(out, status, told)
-}
-
-pub fn multiply(out: &impl Print, v: &[u32]) -> io::Result<()> {
-    let mut answer = [9u32; 1];
-    let told = front_mut(&mut answer, 1);
-    let status = embed::relations_multiply(number(v, 0), number(v, 1), number(v, 2), told);
-    say::line(out, status, told)
-}
-
-pub fn invert(out: &impl Print, v: &[u32]) -> io::Result<()> {
-    let mut answer = [9u32; 1];
-    let told = front_mut(&mut answer, 1);
-    let status = embed::relations_invert(number(v, 0), number(v, 1), told);
-    say::line(out, status, told)
-}
-
-fn call_basis(v: &[u32], d: &[u32], series: &[u32], basis: &mut [u32], told: &mut [u32]) -> u32 {
-    embed::relations_basis(
-        number(v, 0),
-        number(v, 1),
-        number(v, 2),
-        d,
-        series,
-        basis,
-        told,
-    )
-}
-
-pub fn basis(out: &impl Print, v: &[u32], e: &[usize], short: bool) -> io::Result<()> {
-    let mut buffer = [9u32; WORDS];
-    let mut answer = [9u32; 2];
-    let basis = lend(argument(v, e, 5), &mut buffer);
-    let told = front_mut(&mut answer, 2);
-    let status = call_basis(v, argument(v, e, 3), argument(v, e, 4), basis, told);
-    say::with_words(out, status, told, basis, short)
-}
-
-fn call_approximant(
-    v: &[u32],
-    d: &[u32],
-    series: &[u32],
-    basis: &mut [u32],
-    told: &mut [u32],
-) -> u32 {
-    embed::relations_approximant(number(v, 0), number(v, 1), d, series, basis, told)
-}
-
-pub fn approximant(out: &impl Print, v: &[u32], e: &[usize], short: bool) -> io::Result<()> {
-    let mut buffer = [9u32; WORDS];
-    let mut answer = [9u32; 2];
-    let basis = lend(argument(v, e, 4), &mut buffer);
-    let told = front_mut(&mut answer, 2);
-    let status = call_approximant(v, argument(v, e, 2), argument(v, e, 3), basis, told);
-    say::with_words(out, status, told, basis, short)
-}
-
-fn call_bases(v: &[u32], d: &[u32], series: &[u32], bases: &mut [u32], answers: &mut [u32]) -> u32 {
-    embed::relations_bases(
-        number(v, 0),
-        number(v, 1),
-        number(v, 2),
-        number(v, 3),
-        d,
-        series,
-        bases,
-        answers,
-    )
-}
-
-pub fn bases(out: &impl Print, v: &[u32], e: &[usize], short: bool) -> io::Result<()> {
-    let mut first = [9u32; WORDS];
-    let mut second = [9u32; WORDS];
-    let bases = lend(argument(v, e, 6), &mut first);
-    let answers = lend(argument(v, e, 7), &mut second);
-    let status = call_bases(v, argument(v, e, 4), argument(v, e, 5), bases, answers);
-    say::status(out, status)?;
-    say::two_buffers(out, bases, answers, short)
-}
-
-fn call_pair(v: &[u32], g: &[u32], r: &mut [u32], t: &mut [u32]) -> u32 {
-    embed::relations_pair(number(v, 0), number(v, 1), g, r, t)
-}
-
-pub fn pair(out: &impl Print, v: &[u32], e: &[usize], short: bool) -> io::Result<()> {
-    let mut first = [9u32; WORDS];
-    let mut second = [9u32; WORDS];
-    let r = lend(argument(v, e, 3), &mut first);
-    let t = lend(argument(v, e, 4), &mut second);
-    let status = call_pair(v, argument(v, e, 2), r, t);
-    say::status(out, status)?;
-    say::two_buffers(out, r, t, short)
-}
-
-fn call_row(v: &[u32], basis: &[u32], told: &mut [u32]) -> u32 {
-    embed::relations_row(number(v, 0), number(v, 1), number(v, 2), basis, told)
-}
-
-fn say_row(
-    out: &impl Print,
-    v: &[u32],
-    basis: &[u32],
-    status: u32,
-    told: &[u32],
-    short: bool,
-) -> io::Result<()> {
-    let row = engine::row_view(basis, number(v, 0), number(v, 1), number(v, 2));
-    say::with_words(out, status, told, row, short)
-}
-
-pub fn row(out: &impl Print, v: &[u32], e: &[usize], short: bool) -> io::Result<()> {
-    let mut answer = [9u32; 2];
-    let told = front_mut(&mut answer, 2);
-    let status = call_row(v, argument(v, e, 3), told);
-    say_row(out, v, argument(v, e, 3), status, told, short)
-}
-
-fn say_checks(out: &impl Print, block: &[u8]) -> io::Result<()> {
-    if block.len() == 512 {
-        let checks = block::checks_of(block);
-        say::two(out, checks.a, checks.b)?;
+fn make(out: &impl Print, request: Request, values: &mut [u32]) -> Result<(), Stop> {
+    let [p] = request.arguments::<1>(values, &[])?.numbers;
+    match Field::make(p) {
+        FieldAnswer::Is(f) => println!(out; "0 {}", f.modulus)?,
+        FieldAnswer::Refused(status) => println!(out; "{status}")?,
     }
     Ok(())
 }
 
-pub fn block_checks(out: &impl Print, v: &[u32], e: &[usize]) -> io::Result<()> {
-    let mut bytes = [9u8; 512];
-    let block = lend_bytes(argument(v, e, 0), &mut bytes);
-    say_checks(out, block)
+fn add(out: &impl Print, request: Request, values: &mut [u32]) -> Result<(), Stop> {
+    let [p, a, b] = request.arguments::<3>(values, &[])?.numbers;
+    let mut told = [9; 1];
+    let status = embed::relations_add(p, a, b, &mut told);
+    println!(out;
+        "{}",
+        Answer {
+            status,
+            told: &told
+        }
+    )?;
+    Ok(())
 }
 
-fn read_lent(
-    out: &impl Print,
-    file: &[u8],
-    d: &mut [u32],
-    series: &mut [u32],
-    short: bool,
-) -> io::Result<()> {
-    let mut answer = [9u32; 3];
-    let told = front_mut(&mut answer, 3);
-    let status = embed::relations_read(file, d, series, told);
-    say::answer(out, status, told)?;
-    say::two_buffers(out, d, series, short)
+fn multiply(out: &impl Print, request: Request, values: &mut [u32]) -> Result<(), Stop> {
+    let [p, a, b] = request.arguments::<3>(values, &[])?.numbers;
+    let mut told = [9; 1];
+    let status = embed::relations_multiply(p, a, b, &mut told);
+    println!(out;
+        "{}",
+        Answer {
+            status,
+            told: &told
+        }
+    )?;
+    Ok(())
 }
 
-pub fn read(out: &impl Print, v: &[u32], e: &[usize], short: bool) -> io::Result<()> {
-    let mut bytes = [9u8; FILE];
-    let mut first = [9u32; WORDS];
-    let mut second = [9u32; WORDS];
-    let file = lend_bytes(argument(v, e, 0), &mut bytes);
-    let d = lend(argument(v, e, 1), &mut first);
-    let series = lend(argument(v, e, 2), &mut second);
-    read_lent(out, file, d, series, short)
+fn invert(out: &impl Print, request: Request, values: &mut [u32]) -> Result<(), Stop> {
+    let [p, a] = request.arguments::<2>(values, &[])?.numbers;
+    let mut told = [9; 1];
+    let status = embed::relations_invert(p, a, &mut told);
+    println!(out;
+        "{}",
+        Answer {
+            status,
+            told: &told
+        }
+    )?;
+    Ok(())
 }
 
-fn call_write(v: &[u32], d: &[u32], series: &[u32], file: &mut [u8], told: &mut [u32]) -> u32 {
-    embed::relations_write(
-        number(v, 0),
-        number(v, 1),
-        number(v, 2),
-        d,
-        series,
+fn basis(out: &impl Print, request: Request, values: &mut [u32]) -> Result<(), Stop> {
+    let given = request.arguments::<3>(values, &[Kind::Read, Kind::Read, Kind::Written])?;
+    let [p, n, s] = given.numbers;
+    let mut words = [9; WORDS];
+    let words = lend(given.slice(2), &mut words);
+    let mut told = [9; 2];
+    let status = embed::relations_basis(p, n, s, given.slice(0), given.slice(1), words, &mut told);
+    let answer = Answer {
+        status,
+        told: &told,
+    };
+    println!(out;
+        "{answer}{}",
+        Buffer {
+            words,
+            form: given.form
+        }
+    )?;
+    Ok(())
+}
+
+fn approximant(out: &impl Print, request: Request, values: &mut [u32]) -> Result<(), Stop> {
+    let given = request.arguments::<2>(values, &[Kind::Read, Kind::Read, Kind::Written])?;
+    let [p, n] = given.numbers;
+    let mut words = [9; WORDS];
+    let words = lend(given.slice(2), &mut words);
+    let mut told = [9; 2];
+    let status = embed::relations_approximant(
+        p,
+        n,
+        given.slice(0),
+        given.slice(1),
+        words,
+        &mut told,
+    );
+    let answer = Answer {
+        status,
+        told: &told,
+    };
+    println!(out;
+        "{answer}{}",
+        Buffer {
+            words,
+            form: given.form
+        }
+    )?;
+    Ok(())
+}
+
+fn bases(out: &impl Print, request: Request, values: &mut [u32]) -> Result<(), Stop> {
+    let kinds = [Kind::Read, Kind::Read, Kind::Written, Kind::Written];
+    let given = request.arguments::<4>(values, &kinds)?;
+    let [p, n, s, sets] = given.numbers;
+    let mut bases = [9; WORDS];
+    let mut answers = [9; WORDS];
+    let bases = lend(given.slice(2), &mut bases);
+    let answers = lend(given.slice(3), &mut answers);
+    let status = embed::relations_bases(
+        p,
+        n,
+        s,
+        sets,
+        given.slice(0),
+        given.slice(1),
+        bases,
+        answers,
+    );
+    let form = given.form;
+    println!(out;
+        "{status}{}{}",
+        Buffer { words: bases, form },
+        Buffer {
+            words: answers,
+            form
+        }
+    )?;
+    Ok(())
+}
+
+fn pair(out: &impl Print, request: Request, values: &mut [u32]) -> Result<(), Stop> {
+    let given = request.arguments::<2>(values, &[Kind::Read, Kind::Written, Kind::Written])?;
+    let [p, k] = given.numbers;
+    let mut r = [9; WORDS];
+    let mut t = [9; WORDS];
+    let r = lend(given.slice(1), &mut r);
+    let t = lend(given.slice(2), &mut t);
+    let status = embed::relations_pair(p, k, given.slice(0), r, t);
+    let form = given.form;
+    println!(out;
+        "{status}{}{}",
+        Buffer { words: r, form },
+        Buffer { words: t, form }
+    )?;
+    Ok(())
+}
+
+fn row(out: &impl Print, request: Request, values: &mut [u32]) -> Result<(), Stop> {
+    let given = request.arguments::<3>(values, &[Kind::Read])?;
+    let [n, s, i] = given.numbers;
+    let basis = given.slice(0);
+    let mut told = [9; 2];
+    let status = embed::relations_row(n, s, i, basis, &mut told);
+    let answer = Answer {
+        status,
+        told: &told,
+    };
+    let words = engine::row_view(basis, n, s, i);
+    println!(out;
+        "{answer}{}",
+        Buffer {
+            words,
+            form: given.form
+        }
+    )?;
+    Ok(())
+}
+
+fn block_checks(out: &impl Print, request: Request, values: &mut [u32]) -> Result<(), Stop> {
+    let given = request.arguments::<0>(values, &[Kind::Block])?;
+    let mut block = [9u8; 512];
+    lend(given.slice(0), &mut block);
+    let checks = block::checks_of(&block);
+    println!(out; "0 {} {}", checks.a, checks.b)?;
+    Ok(())
+}
+
+fn read(out: &impl Print, request: Request, values: &mut [u32]) -> Result<(), Stop> {
+    let given = request.arguments::<0>(values, &[Kind::File, Kind::Written, Kind::Written])?;
+    let mut file = [9u8; FILE];
+    let mut d = [9; WORDS];
+    let mut series = [9; WORDS];
+    let file = lend(given.slice(0), &mut file);
+    let d = lend(given.slice(1), &mut d);
+    let series = lend(given.slice(2), &mut series);
+    let mut told = [9; 3];
+    let status = embed::relations_read(file, d, series, &mut told);
+    let answer = Answer {
+        status,
+        told: &told,
+    };
+    let form = given.form;
+    println!(out;
+        "{answer}{}{}",
+        Buffer { words: d, form },
+        Buffer {
+            words: series,
+            form
+        }
+    )?;
+    Ok(())
+}
+
+fn write(out: &impl Print, request: Request, values: &mut [u32]) -> Result<(), Stop> {
+    let given = request.arguments::<3>(values, &[Kind::Read, Kind::Read, Kind::File])?;
+    let [p, n, s] = given.numbers;
+    let mut file = [9u8; FILE];
+    let file = lend(given.slice(2), &mut file);
+    let mut told = [9; 1];
+    let status = embed::relations_write(p, n, s, given.slice(0), given.slice(1), file, &mut told);
+    with_bytes(
+        out,
+        Answer {
+            status,
+            told: &told,
+        },
         file,
-        told,
-    )
+        given.form,
+    )?;
+    Ok(())
 }
 
-pub fn write(out: &impl Print, v: &[u32], e: &[usize], short: bool) -> io::Result<()> {
-    let mut bytes = [9u8; FILE];
-    let mut answer = [9u32; 1];
-    let file = lend_bytes(argument(v, e, 5), &mut bytes);
-    let told = front_mut(&mut answer, 1);
-    let status = call_write(v, argument(v, e, 3), argument(v, e, 4), file, told);
-    say::with_bytes(out, status, told, file, short)
-}
-
-fn call_text(v: &[u32], d: &[u32], basis: &[u32], text: &mut [u8], told: &mut [u32]) -> u32 {
-    embed::relations_text(
-        number(v, 0),
-        number(v, 1),
-        number(v, 2),
-        d,
-        basis,
-        number(v, 3),
+fn text(out: &impl Print, request: Request, values: &mut [u32]) -> Result<(), Stop> {
+    let given = request.arguments::<4>(values, &[Kind::Read, Kind::Read, Kind::Text])?;
+    let [p, n, s, least] = given.numbers;
+    let mut text = [9u8; TEXT];
+    let text = lend(given.slice(2), &mut text);
+    let mut told = [9; 1];
+    let (d, basis) = (given.slice(0), given.slice(1));
+    let status = embed::relations_text(p, n, s, d, basis, least, text, &mut told);
+    with_bytes(
+        out,
+        Answer {
+            status,
+            told: &told,
+        },
         text,
-        told,
-    )
+        given.form,
+    )?;
+    Ok(())
 }
 
-pub fn text(out: &impl Print, v: &[u32], e: &[usize], short: bool) -> io::Result<()> {
-    let mut bytes = [9u8; TEXT];
-    let mut answer = [9u32; 1];
-    let text = lend_bytes(argument(v, e, 6), &mut bytes);
-    let told = front_mut(&mut answer, 1);
-    let status = call_text(v, argument(v, e, 4), argument(v, e, 5), text, told);
-    say::with_bytes(out, status, told, text, short)
+fn refused(out: &impl Print, request: Request, values: &mut [u32]) -> Result<(), Stop> {
+    let given = request.arguments::<1>(values, &[Kind::Text])?;
+    let [number] = given.numbers;
+    let mut text = [9u8; TEXT];
+    let text = lend(given.slice(0), &mut text);
+    let mut told = [9; 1];
+    let status = embed::relations_refused(number, text, &mut told);
+    with_bytes(
+        out,
+        Answer {
+            status,
+            told: &told,
+        },
+        text,
+        given.form,
+    )?;
+    Ok(())
 }
 
-pub fn refused(out: &impl Print, v: &[u32], e: &[usize], short: bool) -> io::Result<()> {
-    let mut bytes = [9u8; TEXT];
-    let mut answer = [9u32; 1];
-    let text = lend_bytes(argument(v, e, 1), &mut bytes);
-    let told = front_mut(&mut answer, 1);
-    let status = embed::relations_refused(number(v, 0), text, told);
-    say::with_bytes(out, status, told, text, short)
+fn print(out: &impl Print, request: Request, values: &mut [u32]) -> Result<(), Stop> {
+    let given = request.arguments::<0>(values, &[Kind::File, Kind::Text])?;
+    let mut file = [9u8; FILE];
+    let mut text = [9u8; TEXT];
+    let file = lend(given.slice(0), &mut file);
+    let text = lend(given.slice(1), &mut text);
+    let mut told = [9; 1];
+    let status = embed::relations_print(file, text, &mut told);
+    with_bytes(
+        out,
+        Answer {
+            status,
+            told: &told,
+        },
+        text,
+        given.form,
+    )?;
+    Ok(())
 }
 
-pub fn print(out: &impl Print, v: &[u32], e: &[usize], short: bool) -> io::Result<()> {
-    let mut first = [9u8; FILE];
-    let mut second = [9u8; TEXT];
-    let mut answer = [9u32; 1];
-    let file = lend_bytes(argument(v, e, 0), &mut first);
-    let text = lend_bytes(argument(v, e, 1), &mut second);
-    let told = front_mut(&mut answer, 1);
-    let status = embed::relations_print(file, text, told);
-    say::with_bytes(out, status, told, text, short)
+fn parse(out: &impl Print, request: Request, values: &mut [u32]) -> Result<(), Stop> {
+    let given = request.arguments::<0>(values, &[Kind::JobText, Kind::Type, Kind::Series])?;
+    let mut text = [9u8; JOB_TEXT];
+    let text = lend(given.slice(0), &mut text);
+    let mut d = [9; 8];
+    let mut series = [9; 2040];
+    lend(given.slice(1), &mut d);
+    lend(given.slice(2), &mut series);
+    let mut told = [9; 3];
+    let status = embed::relations_parse(text, &mut d, &mut series, &mut told);
+    let answer = Answer {
+        status,
+        told: &told,
+    };
+    let form = given.form;
+    println!(out;
+        "{answer}{}{}",
+        Buffer { words: &d, form },
+        Buffer {
+            words: &series,
+            form
+        }
+    )?;
+    Ok(())
 }
 
-fn parse_lent(
-    out: &impl Print,
-    text: &[u8],
-    d: &mut [u32; 8],
-    series: &mut [u32; 2040],
-    short: bool,
-) -> io::Result<()> {
-    let mut answer = [9u32; 3];
-    let told = front_mut(&mut answer, 3);
-    let status = embed::relations_parse(text, d, series, told);
-    say::answer(out, status, told)?;
-    say::two_buffers(out, d, series, short)
-}
-
-pub fn parse(out: &impl Print, v: &[u32], e: &[usize], short: bool) -> io::Result<()> {
-    let mut bytes = [9u8; JOB_TEXT];
-    let mut d = [9u32; 8];
-    let mut series = [9u32; 2040];
-    let text = lend_bytes(argument(v, e, 0), &mut bytes);
-    copy(argument(v, e, 1), &mut d);
-    copy(argument(v, e, 2), &mut series);
-    parse_lent(out, text, &mut d, &mut series, short)
-}
-
-pub fn parse_line(out: &impl Print, v: &[u32], e: &[usize]) -> io::Result<()> {
-    let mut bytes = [9u8; JOB_TEXT];
-    let text = lend_bytes(argument(v, e, 0), &mut bytes);
-    say::length(out, embed::relations_parse_line(text))
+fn parse_line(out: &impl Print, request: Request, values: &mut [u32]) -> Result<(), Stop> {
+    let given = request.arguments::<0>(values, &[Kind::JobText])?;
+    let mut text = [9u8; JOB_TEXT];
+    let text = lend(given.slice(0), &mut text);
+    println!(out; "0 {}", embed::relations_parse_line(text))?;
+    Ok(())
 }
