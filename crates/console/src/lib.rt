@@ -16,9 +16,8 @@ pub fn read_full<R: Read>(input: &mut R, buffer: &mut [u8]) -> usize
     let mut done = 0;
     while done < buffer.len() {
         match input.read(&mut buffer[done..]) {
-            Ok(0) => return done,
+            Ok(0) | Err(_) => break,
             Ok(n) => done += n,
-            Err(_) => return done,
         }
     }
     done

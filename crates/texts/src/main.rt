@@ -10,20 +10,16 @@ use std::{env, io};
 // The system's words for an error and its number behind them take less.
 const WORDS: usize = 256;
 
-// Where the words end: before the number that stands behind them in brackets, else at the first byte that is not written.
+// Where the words end: before the number that stands behind them in brackets, else at the first byte that is not written, and before the spaces there.
 fn words_end(text: &[u8]) -> usize
     ensures { result ≤ length text.now }
 {
-    let mut end = 0;
-    for (i, byte) in text.iter().enumerate() {
-        if *byte == 0 || *byte == b'(' {
-            return end;
-        }
-        if *byte != b' ' {
-            end = i + 1;
-        }
-    }
-    end
+    let end = text.iter().position(|b| matches!(b, 0 | b'('));
+    let front = &text[..end.unwrap_or(text.len())];
+    front
+        .iter()
+        .rposition(|b| *b != b' ')
+        .map_or(0, |last| last + 1)
 }
 
 fn print_named(rt: &HostRuntime, name: &str) -> io::Result<()> {
