@@ -2,7 +2,7 @@
 use crate::arguments::{Kind, Request};
 use crate::fault::{Fault, Stop};
 use crate::lend::{FILE, JOB_TEXT, TEXT, WORDS, lend};
-use crate::say::{Answer, Buffer, with_bytes};
+use crate::say::{Answer, with_bytes};
 use field::{Field, FieldAnswer};
 
 // Which call it is comes before what is wrong with a word.
@@ -14,8 +14,8 @@ pub fn answer(
 ) -> Result<(), Stop> {
     match name {
         b"make" => make(out, request, values),
-        b"add" => add(out, request, values),
-        b"multiply" => multiply(out, request, values),
+        b"add" => combine(out, request, values, embed::relations_add),
+        b"multiply" => combine(out, request, values, embed::relations_multiply),
         b"invert" => invert(out, request, values),
         b"basis" => basis(out, request, values),
         b"approximant" => approximant(out, request, values),
@@ -43,31 +43,19 @@ fn make(out: &impl Print, request: Request, values: &mut [u32]) -> Result<(), St
     Ok(())
 }
 
-fn add(out: &impl Print, request: Request, values: &mut [u32]) -> Result<(), Stop> {
+// A call on two residues.
+fn combine<F: Fn(u32, u32, u32, &mut [u32]) -> u32>(
+    out: &impl Print,
+    request: Request,
+    values: &mut [u32],
+    call: F,
+) -> Result<(), Stop>
+    requires { F.IsAlwaysCallable call }
+{
     let [p, a, b] = request.arguments::<3>(values, &[])?.numbers;
     let mut told = [9; 1];
-    let status = embed::relations_add(p, a, b, &mut told);
-    println!(out;
-        "{}",
-        Answer {
-            status,
-            told: &told
-        }
-    )?;
-    Ok(())
-}
-
-fn multiply(out: &impl Print, request: Request, values: &mut [u32]) -> Result<(), Stop> {
-    let [p, a, b] = request.arguments::<3>(values, &[])?.numbers;
-    let mut told = [9; 1];
-    let status = embed::relations_multiply(p, a, b, &mut told);
-    println!(out;
-        "{}",
-        Answer {
-            status,
-            told: &told
-        }
-    )?;
+    let status = call(p, a, b, &mut told);
+    println!(out; "{}", Answer(status, &told))?;
     Ok(())
 }
 
@@ -75,13 +63,7 @@ fn invert(out: &impl Print, request: Request, values: &mut [u32]) -> Result<(), 
     let [p, a] = request.arguments::<2>(values, &[])?.numbers;
     let mut told = [9; 1];
     let status = embed::relations_invert(p, a, &mut told);
-    println!(out;
-        "{}",
-        Answer {
-            status,
-            told: &told
-        }
-    )?;
+    println!(out; "{}", Answer(status, &told))?;
     Ok(())
 }
 
@@ -91,18 +73,10 @@ fn basis(out: &impl Print, request: Request, values: &mut [u32]) -> Result<(), S
     let mut words = [9; WORDS];
     let words = lend(given.slice(2), &mut words);
     let mut told = [9; 2];
-    let status = embed::relations_basis(p, n, s, given.slice(0), given.slice(1), words, &mut told);
-    let answer = Answer {
-        status,
-        told: &told,
-    };
-    println!(out;
-        "{answer}{}",
-        Buffer {
-            words,
-            form: given.form
-        }
-    )?;
+    let (d, series) = (given.slice(0), given.slice(1));
+    let status = embed::relations_basis(p, n, s, d, series, words, &mut told);
+    let answer = Answer(status, &told);
+    println!(out; "{answer}{}", given.form.say(words))?;
     Ok(())
 }
 
@@ -112,25 +86,10 @@ fn approximant(out: &impl Print, request: Request, values: &mut [u32]) -> Result
     let mut words = [9; WORDS];
     let words = lend(given.slice(2), &mut words);
     let mut told = [9; 2];
-    let status = embed::relations_approximant(
-        p,
-        n,
-        given.slice(0),
-        given.slice(1),
-        words,
-        &mut told,
-    );
-    let answer = Answer {
-        status,
-        told: &told,
-    };
-    println!(out;
-        "{answer}{}",
-        Buffer {
-            words,
-            form: given.form
-        }
-    )?;
+    let (d, series) = (given.slice(0), given.slice(1));
+    let status = embed::relations_approximant(p, n, d, series, words, &mut told);
+    let answer = Answer(status, &told);
+    println!(out; "{answer}{}", given.form.say(words))?;
     Ok(())
 }
 
@@ -142,25 +101,10 @@ fn bases(out: &impl Print, request: Request, values: &mut [u32]) -> Result<(), S
     let mut answers = [9; WORDS];
     let bases = lend(given.slice(2), &mut bases);
     let answers = lend(given.slice(3), &mut answers);
-    let status = embed::relations_bases(
-        p,
-        n,
-        s,
-        sets,
-        given.slice(0),
-        given.slice(1),
-        bases,
-        answers,
-    );
+    let (d, series) = (given.slice(0), given.slice(1));
+    let status = embed::relations_bases(p, n, s, sets, d, series, bases, answers);
     let form = given.form;
-    println!(out;
-        "{status}{}{}",
-        Buffer { words: bases, form },
-        Buffer {
-            words: answers,
-            form
-        }
-    )?;
+    println!(out; "{status}{}{}", form.say(bases), form.say(answers))?;
     Ok(())
 }
 
@@ -173,11 +117,7 @@ fn pair(out: &impl Print, request: Request, values: &mut [u32]) -> Result<(), St
     let t = lend(given.slice(2), &mut t);
     let status = embed::relations_pair(p, k, given.slice(0), r, t);
     let form = given.form;
-    println!(out;
-        "{status}{}{}",
-        Buffer { words: r, form },
-        Buffer { words: t, form }
-    )?;
+    println!(out; "{status}{}{}", form.say(r), form.say(t))?;
     Ok(())
 }
 
@@ -187,18 +127,9 @@ fn row(out: &impl Print, request: Request, values: &mut [u32]) -> Result<(), Sto
     let basis = given.slice(0);
     let mut told = [9; 2];
     let status = embed::relations_row(n, s, i, basis, &mut told);
-    let answer = Answer {
-        status,
-        told: &told,
-    };
+    let answer = Answer(status, &told);
     let words = engine::row_view(basis, n, s, i);
-    println!(out;
-        "{answer}{}",
-        Buffer {
-            words,
-            form: given.form
-        }
-    )?;
+    println!(out; "{answer}{}", given.form.say(words))?;
     Ok(())
 }
 
@@ -221,19 +152,9 @@ fn read(out: &impl Print, request: Request, values: &mut [u32]) -> Result<(), St
     let series = lend(given.slice(2), &mut series);
     let mut told = [9; 3];
     let status = embed::relations_read(file, d, series, &mut told);
-    let answer = Answer {
-        status,
-        told: &told,
-    };
+    let answer = Answer(status, &told);
     let form = given.form;
-    println!(out;
-        "{answer}{}{}",
-        Buffer { words: d, form },
-        Buffer {
-            words: series,
-            form
-        }
-    )?;
+    println!(out; "{answer}{}{}", form.say(d), form.say(series))?;
     Ok(())
 }
 
@@ -243,16 +164,9 @@ fn write(out: &impl Print, request: Request, values: &mut [u32]) -> Result<(), S
     let mut file = [9u8; FILE];
     let file = lend(given.slice(2), &mut file);
     let mut told = [9; 1];
-    let status = embed::relations_write(p, n, s, given.slice(0), given.slice(1), file, &mut told);
-    with_bytes(
-        out,
-        Answer {
-            status,
-            told: &told,
-        },
-        file,
-        given.form,
-    )?;
+    let (d, series) = (given.slice(0), given.slice(1));
+    let status = embed::relations_write(p, n, s, d, series, file, &mut told);
+    with_bytes(out, Answer(status, &told), file, given.form)?;
     Ok(())
 }
 
@@ -264,15 +178,7 @@ fn text(out: &impl Print, request: Request, values: &mut [u32]) -> Result<(), St
     let mut told = [9; 1];
     let (d, basis) = (given.slice(0), given.slice(1));
     let status = embed::relations_text(p, n, s, d, basis, least, text, &mut told);
-    with_bytes(
-        out,
-        Answer {
-            status,
-            told: &told,
-        },
-        text,
-        given.form,
-    )?;
+    with_bytes(out, Answer(status, &told), text, given.form)?;
     Ok(())
 }
 
@@ -283,15 +189,7 @@ fn refused(out: &impl Print, request: Request, values: &mut [u32]) -> Result<(),
     let text = lend(given.slice(0), &mut text);
     let mut told = [9; 1];
     let status = embed::relations_refused(number, text, &mut told);
-    with_bytes(
-        out,
-        Answer {
-            status,
-            told: &told,
-        },
-        text,
-        given.form,
-    )?;
+    with_bytes(out, Answer(status, &told), text, given.form)?;
     Ok(())
 }
 
@@ -303,15 +201,7 @@ fn print(out: &impl Print, request: Request, values: &mut [u32]) -> Result<(), S
     let text = lend(given.slice(1), &mut text);
     let mut told = [9; 1];
     let status = embed::relations_print(file, text, &mut told);
-    with_bytes(
-        out,
-        Answer {
-            status,
-            told: &told,
-        },
-        text,
-        given.form,
-    )?;
+    with_bytes(out, Answer(status, &told), text, given.form)?;
     Ok(())
 }
 
@@ -325,19 +215,9 @@ fn parse(out: &impl Print, request: Request, values: &mut [u32]) -> Result<(), S
     lend(given.slice(2), &mut series);
     let mut told = [9; 3];
     let status = embed::relations_parse(text, &mut d, &mut series, &mut told);
-    let answer = Answer {
-        status,
-        told: &told,
-    };
+    let answer = Answer(status, &told);
     let form = given.form;
-    println!(out;
-        "{answer}{}{}",
-        Buffer { words: &d, form },
-        Buffer {
-            words: &series,
-            form
-        }
-    )?;
+    println!(out; "{answer}{}{}", form.say(&d), form.say(&series))?;
     Ok(())
 }
 

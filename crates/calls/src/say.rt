@@ -24,15 +24,12 @@ impl fmt::Display for Numbers<'_> {
 
 // The status of a call, and the numbers of its result, which are said where there is one.
 #[derive(Clone, Copy)]
-pub struct Answer<'a> {
-    pub status: u32,
-    pub told: &'a [u32],
-}
+pub struct Answer<'a>(pub u32, pub &'a [u32]);
 
 impl fmt::Display for Answer<'_> {
     fn fmt<W: fmt::Write>(&self, f: &mut fmt::Formatter<W>) -> fmt::Result {
-        match self.status {
-            0 => write!(f, "0{}", Numbers(self.told)),
+        match self.0 {
+            0 => write!(f, "0{}", Numbers(self.1)),
             status => write!(f, "{status}"),
         }
     }
@@ -41,8 +38,14 @@ impl fmt::Display for Answer<'_> {
 // A buffer as the call left it: all of it, or its two checks and its length.
 #[derive(Clone, Copy)]
 pub struct Buffer<'a> {
-    pub words: &'a [u32],
-    pub form: Form,
+    words: &'a [u32],
+    form: Form,
+}
+
+impl Form {
+    pub fn say(self, words: &[u32]) -> Buffer<'_> {
+        Buffer { words, form: self }
+    }
 }
 
 impl fmt::Display for Buffer<'_> {
@@ -62,5 +65,5 @@ impl fmt::Display for Buffer<'_> {
 pub fn with_bytes(out: &impl Print, answer: Answer, bytes: &[u8], form: Form) -> io::Result<()> {
     let mut wide = [9u32; TEXT];
     let words = lend(bytes, &mut wide);
-    println!(out; "{answer}{}", Buffer { words, form })
+    println!(out; "{answer}{}", form.say(words))
 }
