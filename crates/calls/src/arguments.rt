@@ -2,7 +2,7 @@
 use crate::fault::Fault;
 use crate::lend::{FILE, JOB_TEXT, TEXT, WORDS};
 use crate::say::Form;
-use request::Slip;
+use request::{Arguments, Slip};
 use std::array;
 
 // How many words a call takes at most.
@@ -71,7 +71,7 @@ pub struct Request<'a> {
 
 // The arguments of a request that fits its call.
 #[derive(Clone, Copy)]
-pub struct Arguments<'a, const N: usize> {
+pub struct Given<'a, const N: usize> {
     pub numbers: [u32; N],
     pub form: Form,
     values: &'a [u32],
@@ -84,31 +84,36 @@ impl Request<'_> {
         &self,
         values: &'a mut [u32],
         kinds: &[Kind],
-    ) -> Result<Arguments<'a, N>, Fault> {
+    ) -> Result<Given<'a, N>, Fault> {
         let mut ends = [0usize; ARGUMENTS];
-        let count = match request::read_arguments(self.text, values, &mut ends) {
-            request::Arguments::Count(count) => count,
-            request::Arguments::Wrong(slip) => return Err(Fault::Words(slip)),
+        let count = request::read_arguments(self.text, values, &mut ends)?;
+        let read = Arguments {
+            values,
+            ends: &ends[..count.min(ARGUMENTS)],
         };
-        if !request::is_shape(&ends[..count.min(ARGUMENTS)], N, kinds.len()) {
+        if !read.is_shape(N, kinds.len()) {
             return Err(Fault::OtherArguments);
         }
-        let arguments = Arguments {
+        let given = Given {
             numbers: array::from_fn(|i| values.get(i).copied().unwrap_or(0)),
             form: self.form,
             values,
             ends,
         };
         for (i, kind) in kinds.iter().enumerate() {
-            kind.test(arguments.slice(i))?;
+            kind.test(given.slice(i))?;
         }
-        Ok(arguments)
+        Ok(given)
     }
 }
 
-impl<'a, const N: usize> Arguments<'a, N> {
+impl<const N: usize> Given<'_, N> {
     // The slice behind the numbers and so many others.
-    pub fn slice(&self, i: usize) -> &'a [u32] {
-        request::argument(self.values, &self.ends, N.wrapping_add(i))
+    pub fn slice(&self, i: usize) -> &[u32] {
+        let read = Arguments {
+            values: self.values,
+            ends: &self.ends,
+        };
+        read.argument(N.wrapping_add(i))
     }
 }

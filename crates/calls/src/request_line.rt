@@ -3,15 +3,13 @@ use crate::arguments::Request;
 use crate::fault::{Fault, Stop};
 use crate::run;
 use crate::say::Form;
-use tokens::Taken;
+use tokens::{Position, Word};
 
 // The first word of a text, and what stands behind it.
 #[tactic(auto, unfolding(tokens::specs::Taking::TakesWord))]
 fn split_word(text: &[u8]) -> Option<(&[u8], &[u8])> {
-    match tokens::take_word(text, 0, 1) {
-        Taken::Word { from, to, line: _ } => Some((&text[from..to], &text[to..])),
-        Taken::End { line: _ } => None,
-    }
+    let Word { from, to, line: _ } = tokens::take_word(text, Position { at: 0, line: 1 }).ok()?;
+    Some((&text[from..to], &text[to..]))
 }
 
 // A line without a word gets no answer; `checks` before the call asks for buffers in short.

@@ -3,7 +3,7 @@ use crate::arguments::{Kind, Request};
 use crate::fault::{Fault, Stop};
 use crate::lend::{FILE, JOB_TEXT, TEXT, WORDS, lend};
 use crate::say::{Answer, with_bytes};
-use field::{Field, FieldAnswer};
+use field::Field;
 
 // Which call it is comes before what is wrong with a word.
 pub fn answer(
@@ -37,8 +37,8 @@ pub fn answer(
 fn make(out: &impl Print, request: Request, values: &mut [u32]) -> Result<(), Stop> {
     let [p] = request.arguments::<1>(values, &[])?.numbers;
     match Field::make(p) {
-        FieldAnswer::Is(f) => println!(out; "0 {}", f.modulus)?,
-        FieldAnswer::Refused(status) => println!(out; "{status}")?,
+        Ok(field) => println!(out; "0 {}", field.modulus)?,
+        Err(refusal) => println!(out; "{}", refusal.number())?,
     }
     Ok(())
 }
