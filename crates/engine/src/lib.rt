@@ -101,13 +101,7 @@ fn test_type_and_series(
     test_series(p, n, order_of(d), series, basis)
 }
 
-fn test_approximant(
-    p: u32,
-    n: u32,
-    d: &[u32],
-    series: &[u32],
-    basis: usize,
-) -> Result<(), Refusal>
+fn test_approximant(p: u32, n: u32, d: &[u32], series: &[u32], basis: usize) -> Result<(), Refusal>
     ensures { Tests (approximant_order p n d.now series.now basis) result }
 {
     sizes::test_start(p, n)?;

@@ -23,13 +23,13 @@ order_of-requires c =
 pub invariant_of-problem : goal.invariant_of-problem
 invariant_of-problem c =
     let z = approximant_sizes c.args.p c.args.n c.args.d.now c.args.series.now _ (passed _ _ c.in_ok-test_approximant.ensures) in
-    record { positive = omega (arith, z.modulus.prime.above_one); }
+    record { positive = omega (arith, z.modulus.prime.above_one) }
 
 pub invariant_of-problem-2 : goal.invariant_of-problem-2
 invariant_of-problem-2 c =
     let z = approximant_sizes c.args.p c.args.n c.args.d.now c.args.series.now _ (passed _ _ c.in_ok-test_approximant.ensures) in
     let order : c.order_of.result ≡ order_of c.args.n c.args.d.now = rw z.type_length at c.order_of.ensures.0 in
-    record { prime = z.modulus.prime; few = z.n_to; short = omega (arith, order, z.s_to); types = type_length z; full = rw order z.series_length; }
+    record { prime = z.modulus.prime; few = z.n_to; short = omega (arith, order, z.s_to); types = type_length z; full = rw order z.series_length }
 
 pub answered-requires : goal.answered-requires
 answered-requires c =

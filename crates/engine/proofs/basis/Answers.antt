@@ -14,12 +14,12 @@ returns-in_err-test_basis c =
     rw (p.1, p.2) (refuses _ _ _ _ c.in_err-test_basis.ensures (refl, refl))
 
 pub invariant_of-problem : goal.invariant_of-problem
-invariant_of-problem c = record { positive = omega (arith, (basis_sizes _ _ _ _ _ _ (passed _ _ c.in_ok-test_basis.ensures)).modulus.prime.above_one); }
+invariant_of-problem c = record { positive = omega (arith, (basis_sizes _ _ _ _ _ _ (passed _ _ c.in_ok-test_basis.ensures)).modulus.prime.above_one) }
 
 pub invariant_of-problem-2 : goal.invariant_of-problem-2
 invariant_of-problem-2 c =
     let z = basis_sizes _ _ _ _ _ _ (passed _ _ c.in_ok-test_basis.ensures) in
-    record { prime = z.modulus.prime; few = z.n_to; short = z.s_to; types = type_length z; full = z.series_length; }
+    record { prime = z.modulus.prime; few = z.n_to; short = z.s_to; types = type_length z; full = z.series_length }
 
 pub answered-requires : goal.answered-requires
 answered-requires c =
