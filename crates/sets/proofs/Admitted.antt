@@ -12,10 +12,10 @@ use Rattle.words.proofs.Part.{part_fits, part_length}
 use Rattle.sizes.specs.Lengths.{basis_length}
 use Rattle.sizes.specs.Orders.{sizes_order}
 use Rattle.sizes.proofs.Passed.{sizes_passed}
+use Rattle.step.specs.Offset.{TypeWords}
 use Rattle.solve.specs.Sizes.{Sizes}
 use Rattle.sets.specs.Orders.{lent_order, bases_order}
-use Rattle.sets.specs.BasesSizes.{BasesSizes}
-use Rattle.sets.specs.InSet.{InSet}
+use Rattle.sets.proofs.BasesSizes.{BasesSizes}
 
 pub bases_sizes : (p n s sets : ℕ) (d : List ℕ) (series bases answers : ℕ) → NoTest (bases_order p n s sets d series bases answers)
     → BasesSizes p n s sets d series bases answers
@@ -36,6 +36,9 @@ bases_sizes p n s sets d series bases answers t =
       entries = search rest;
     }
 
+pub types_of : {p n s sets : ℕ} {d : List ℕ} {series bases answers : ℕ} → BasesSizes p n s sets d series bases answers → TypeWords n d
+types_of z = record { count = z.type_length; inside = λ i hi h. z.entries (i, omega (arith, z.type_length), h) }
+
 module _ {p n s sets : ℕ} {d : List ℕ} (series : List ℕ) {bases answers : ℕ} (z : BasesSizes p n s sets d (length series) bases answers) (j : ℕ) (h : j < sets) where
   in_series : j * (n * s) + n * s ≤ length series
   in_series = omega (arith, z.series_length, part_fits sets (n * s) j h)
@@ -51,9 +54,6 @@ module _ {p n s sets : ℕ} {d : List ℕ} (series : List ℕ) {bases answers : 
     basis_words = e;
     entries = z.entries;
   }
-
-  pub in_set : (basis : ℕ) → basis ≡ basis_length n s → InSet p n s j d series basis
-  in_set basis e = record { lies = in_series; sizes = set_sizes basis e }
 
   -- with its part of lent bases
   pub part_sizes : (lent : List ℕ) → length lent ≡ bases → Sizes p n s d (part (n * s) j series) (length (part (basis_length n s) j lent))

@@ -16,7 +16,9 @@ use Rattle.field.proofs.Truth.{fails}
 use Rattle.words.specs.Some.{Some}
 use Rattle.sizes.specs.Lengths.{basis_length}
 use Rattle.solve.specs.Sizes.{Sizes}
-use Rattle.engine.specs.declared.BasisAnswer.{BasisAnswer}
+use Rattle.std.proofs.Common.{Result, Ok, Err}
+use Rattle.field.specs.declared.Refusal.{Refusal}
+use Rattle.field.specs.Number.{number_of}
 use Rattle.engine.specs.declared.BasisResult.{BasisResult}
 use Rattle.engine.specs.Answers.{basis_says}
 use Rattle.engine.specs.Basis.{BasisAnswered, BasisOutcome}
@@ -50,7 +52,7 @@ module _ {p : ℕ} (n s : ℕ) (d cut series lent : List ℕ) (cut_out : cut ≡
 pub record Answered (p n s : ℕ) (d series lent left words : List ℕ) : Type 0 where
   pub found : BasisResult
   pub in_words : words ≡ 0 ∷ found.least ∷ found.count ∷ []
-  pub outcome : SetOutcome p n s d series lent (basis_says (BasisAnswer.Found found)) left
+  pub outcome : SetOutcome p n s d series lent (basis_says (Ok found)) left
   pub residues : ¬ (Some (λ x. p ≤ x) series)
 
 pub record Refused (p : ℕ) (series lent left words : List ℕ) : Type 0 where
@@ -63,15 +65,15 @@ pub set_cases : {p n s : ℕ} {d series lent left words : List ℕ} → SetAnswe
 unfolding SetOutcome Outcome NoTest First
 set_cases {p} {n} {s} {d} {series} {lent} {left} {words} a = cases a.answer a.outcome a.in_words
   where
-    cases : (answer : BasisAnswer) → SetOutcome p n s d series lent (basis_says answer) left → words ≡ answer_words answer
+    cases : (answer : Result BasisResult Refusal) → SetOutcome p n s d series lent (basis_says answer) left → words ≡ answer_words answer
         → Answered p n s d series lent left words ⊎ Refused p series lent left words
-    cases (BasisAnswer.Found r) (inl b) e = inl (record { found = r; in_words = e; outcome = inl b; residues = b.0.0 })
-    cases (BasisAnswer.Found r) (inr b) e = absurd (no_result_refused b.2.0)
-    cases (BasisAnswer.Refused k) (inl b) e = absurd (no_result_refused (sym b.1.says))
-    cases (BasisAnswer.Refused k) (inr (j, inl f, b)) e =
-        let same : k ≡ 6 = (let q : refusal k ≡ refusal j = b.0 in let i : k ≡ j = cc in i ∙ sym f.1) in
+    cases (Ok r) (inl b) e = inl (record { found = r; in_words = e; outcome = inl b; residues = b.0.0 })
+    cases (Ok r) (inr b) e = absurd (no_result_refused b.2.0)
+    cases (Err k) (inl b) e = absurd (no_result_refused (sym b.1.says))
+    cases (Err k) (inr (j, inl f, b)) e =
+        let same : number_of k ≡ 6 = (let q : refusal (number_of k) ≡ refusal j = b.0 in let i : number_of k ≡ j = cc in i ∙ sym f.1) in
         inr (record { in_words = e ∙ ap (λ (i : ℕ). i ∷ 0 ∷ 0 ∷ []) same; as_lent = b.1; outside = f.0 })
-    cases (BasisAnswer.Refused k) (inr (j, inr f, b)) e = absurd f.1
+    cases (Err k) (inr (j, inr f, b)) e = absurd f.1
 
 pub set_full : {p n s : ℕ} {d series lent left words : List ℕ} → SetAnswered p n s d series lent left words → length lent ≡ basis_length n s
     → (length left ≡ basis_length n s) × (length words ≡ answer_length)
@@ -82,6 +84,6 @@ set_full {p} {n} {s} {d} {series} {lent} {left} {words} a e = (kept a.outcome, a
     kept (inl b) = b.1.found.full
     kept (inr b) = ap length b.2.1 ∙ e
 
-    three : (answer : BasisAnswer) → length (answer_words answer) ≡ answer_length
-    three (BasisAnswer.Found r) = refl
-    three (BasisAnswer.Refused k) = refl
+    three : (answer : Result BasisResult Refusal) → length (answer_words answer) ≡ answer_length
+    three (Ok r) = refl
+    three (Err k) = refl

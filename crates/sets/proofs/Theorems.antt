@@ -26,13 +26,13 @@ use Rattle.relation.specs.Relation.{Relation}
 use Rattle.relation.specs.LeadingZeros.{LeadingZeros}
 use Rattle.relation.specs.Combination.{Combination}
 use Rattle.row.specs.View.{vector, row}
-use Rattle.engine.specs.declared.BasisAnswer.{BasisAnswer}
+use Rattle.std.proofs.Common.{Result, Ok}
+use Rattle.field.specs.declared.Refusal.{Refusal}
 use Rattle.engine.specs.declared.BasisResult.{BasisResult}
 use Rattle.engine.specs.Answers.{basis_says}
 use Rattle.engine.specs.Basis.{BasisAnswered, BasisOutcome}
 use Rattle.engine.proofs.Unique.{basis_unique}
 use Rattle.engine.proofs.Buffers.{WordsAgree, basis_combinations, basis_one_way, basis_count, basis_words}
-use Rattle.sets.specs.declared.BasesAnswer.{BasesAnswer}
 use Rattle.sets.specs.Answer.{bases_says, answer_length, answer_words}
 use Rattle.sets.specs.Orders.{lent_order, bases_order}
 use Rattle.sets.specs.Set.{SetAnswered}
@@ -41,7 +41,7 @@ use Rattle.sets.proofs.Admitted.{bases_sizes, part_sizes}
 use Rattle.sets.proofs.Alone.{alone, set_cases}
 
 module _ (p n s sets : ℕ) (d series lent words left answers : List ℕ)
-    (o : BasesOutcome p n s sets d series lent words (bases_says BasesAnswer.Answered) left answers) (j : ℕ) (h : j < sets) where
+    (o : BasesOutcome p n s sets d series lent words (bases_says (Ok tt)) left answers) (j : ℕ) (h : j < sets) where
   passed : NoTest (bases_order p n s sets d (length series) (length lent) (length words)) × BasesAnswered p n s sets d series lent left answers
   unfolding BasesOutcome
   passed = let a = admitted _ _ _ [] (λ k refused. refused.0) o in (a.0, a.1.1)
@@ -52,7 +52,7 @@ module _ (p n s sets : ℕ) (d series lent words left answers : List ℕ)
   answered : SetAnswered p n s d (part (n * s) j series) (part (basis_length n s) j lent) (part (basis_length n s) j left) (part answer_length j answers)
   answered = passed.1.each j h
 
-  pub as_alone : (r : BasisAnswer) (out : List ℕ) → BasisOutcome p n s d (part (n * s) j series) (part (basis_length n s) j lent) (basis_says r) out
+  pub as_alone : (r : Result BasisResult Refusal) (out : List ℕ) → BasisOutcome p n s d (part (n * s) j series) (part (basis_length n s) j lent) (basis_says r) out
       → (part answer_length j answers ≡ answer_words r) × (part (basis_length n s) j left ≡ out)
   as_alone r out single =
       let same = basis_unique p n s d _ _ answered.answer r _ out (alone _ sizes _ _ answered.outcome) single in
@@ -70,8 +70,8 @@ module _ (p n s sets : ℕ) (d series lent words left answers : List ℕ)
     | inr b ↦ b.as_lent
   ]
 
-  pub answered_alone : (r : BasisResult) → part answer_length j answers ≡ answer_words (BasisAnswer.Found r)
-      → BasisOutcome p n s d (part (n * s) j series) (part (basis_length n s) j lent) (basis_says (BasisAnswer.Found r)) (part (basis_length n s) j left)
+  pub answered_alone : (r : BasisResult) → part answer_length j answers ≡ answer_words (Ok r)
+      → BasisOutcome p n s d (part (n * s) j series) (part (basis_length n s) j lent) (basis_says (Ok r)) (part (basis_length n s) j left)
   answered_alone r e = elim (set_cases answered) [
     | inl a ↦
         let q : 0 ∷ a.found.least ∷ a.found.count ∷ [] ≡ 0 ∷ r.least ∷ r.count ∷ [] = sym a.in_words ∙ e in
@@ -81,8 +81,8 @@ module _ (p n s sets : ℕ) (d series lent words left answers : List ℕ)
     | inr b ↦ absurd (let q = sym b.in_words ∙ e in let z : ◌≡◌ {A = ℕ} 6 0 = cc in omega arith)
   ]
 
-  module _ (r : BasisResult) (e : part answer_length j answers ≡ answer_words (BasisAnswer.Found r)) where
-    pub set_answered : BasisAnswered p n s d (part (n * s) j series) (part (basis_length n s) j left) (basis_says (BasisAnswer.Found r))
+  module _ (r : BasisResult) (e : part answer_length j answers ≡ answer_words (Ok r)) where
+    pub set_answered : BasisAnswered p n s d (part (n * s) j series) (part (basis_length n s) j left) (basis_says (Ok r))
     unfolding BasisOutcome
     set_answered = (admitted _ _ _ _ (λ k refused. refused.0) (answered_alone r e)).1
 
@@ -97,10 +97,10 @@ module _ (p n s sets : ℕ) (d series lent words left answers : List ℕ)
 
 -- two answered sets, of one call or of two
 pub sets_words : (p n s sets sets' : ℕ) (d series series' lent lent' words words' left left' answers answers' : List ℕ)
-    → BasesOutcome p n s sets d series lent words (bases_says BasesAnswer.Answered) left answers
-    → BasesOutcome p n s sets' d series' lent' words' (bases_says BasesAnswer.Answered) left' answers'
+    → BasesOutcome p n s sets d series lent words (bases_says (Ok tt)) left answers
+    → BasesOutcome p n s sets' d series' lent' words' (bases_says (Ok tt)) left' answers'
     → (j k : ℕ) → j < sets → k < sets' → (r r' : BasisResult)
-    → part answer_length j answers ≡ answer_words (BasisAnswer.Found r) → part answer_length k answers' ≡ answer_words (BasisAnswer.Found r')
+    → part answer_length j answers ≡ answer_words (Ok r) → part answer_length k answers' ≡ answer_words (Ok r')
     → WordsAgree p n s (part (n * s) j series) (part (n * s) k series') (part (basis_length n s) j left) (part (basis_length n s) k left') r r'
 sets_words p n s sets sets' d series series' lent lent' words words' left left' answers answers' o o' j k h h' r r' e e' =
     basis_words p n s d _ _ _ _ _ _ r r'

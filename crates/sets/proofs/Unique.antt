@@ -10,19 +10,21 @@ use Rattle.field.proofs.Outcome.{keep, same_outcome}
 use Rattle.words.specs.Part.{part}
 use Rattle.sizes.specs.Lengths.{basis_length}
 use Rattle.row.proofs.Rows.{parts_ext}
-use Rattle.sets.specs.declared.BasesAnswer.{BasesAnswer}
+use Rattle.std.proofs.Common.{Result, Ok, Err, ap}
+use Rattle.field.specs.declared.Refusal.{Refusal}
+use Rattle.field.proofs.Numbered.{same_number}
 use Rattle.sets.specs.Answer.{bases_says, answer_length}
 use Rattle.sets.specs.Bases.{BasesAnswered, BasesOutcome}
-use Rattle.sets.specs.BasesSizes.{BasesSizes}
+use Rattle.sets.proofs.BasesSizes.{BasesSizes}
 use Rattle.sets.proofs.Admitted.{bases_sizes, part_sizes}
 use Rattle.sets.proofs.Alone.{set_same}
 
 -- what the answers say tells them apart
-bases_told : (r r' : BasesAnswer) → bases_says r ≡ bases_says r' → r ≡ r'
-bases_told BasesAnswer.Answered BasesAnswer.Answered e = refl
-bases_told BasesAnswer.Answered (BasesAnswer.Refused k) e = cc
-bases_told (BasesAnswer.Refused k) BasesAnswer.Answered e = cc
-bases_told (BasesAnswer.Refused k) (BasesAnswer.Refused k') e = cc
+bases_told : (r r' : Result Unit Refusal) → bases_says r ≡ bases_says r' → r ≡ r'
+bases_told (Ok u) (Ok u') e = refl
+bases_told (Ok u) (Err k) e = cc
+bases_told (Err k) (Ok u) e = cc
+bases_told (Err k) (Err k') e = ap Err (same_number k k' cc)
 
 -- set by set
 answered_same : {p n s sets : ℕ} {d series lent left answers left' answers' : List ℕ} {words : ℕ}
@@ -37,7 +39,7 @@ answered_same {n} {s} {sets} {series} {lent} {left} {answers} {left'} {answers'}
       parts_ext sets answer_length answers answers' (omega arith) a.answers_words b.answers_words (λ j h. (same j h).1),
     )
 
-pub bases_unique : (p n s sets : ℕ) (d series lent words : List ℕ) (r r' : BasesAnswer) (left answers left' answers' : List ℕ)
+pub bases_unique : (p n s sets : ℕ) (d series lent words : List ℕ) (r r' : Result Unit Refusal) (left answers left' answers' : List ℕ)
     → BasesOutcome p n s sets d series lent words (bases_says r) left answers → BasesOutcome p n s sets d series lent words (bases_says r') left' answers'
     → (r ≡ r') × (left ≡ left') × (answers ≡ answers')
 unfolding BasesOutcome

@@ -3,6 +3,3 @@ pub mod Answer
 pub mod Orders
 pub mod Set
 pub mod Bases
--- Working notions, which only contracts of the call's own operations cite.
-pub mod BasesSizes
-pub mod InSet

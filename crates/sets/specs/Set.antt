@@ -1,9 +1,10 @@
 -- The outcome of one set, where the tests of the whole call passed: its own refusal is 6.
-use Rattle.std.specs.Prelude.{◌≡◌, List, ℕ}
+use Rattle.std.specs.Prelude.{◌≡◌, List, ℕ, Result}
 use Rattle.field.specs.Refusal.{Outcome}
 use Rattle.field.specs.Answer.{Answer, refusal}
 use Rattle.sizes.specs.Orders.{coefficients_order}
-use Rattle.engine.specs.declared.BasisAnswer.{BasisAnswer}
+use Rattle.field.specs.declared.Refusal.{Refusal}
+use Rattle.engine.specs.declared.BasisResult.{BasisResult}
 use Rattle.engine.specs.Answers.{basis_says}
 use Rattle.engine.specs.Basis.{BasisAnswered}
 use Rattle.sets.specs.Answer.{answer_words}
@@ -15,6 +16,6 @@ SetOutcome p n s d series lent said left =
 
 -- and its three words are `words`
 pub record SetAnswered (p n s : ℕ) (d series lent left words : List ℕ) : Type 0 where
-  pub answer : BasisAnswer
+  pub answer : Result BasisResult Refusal
   pub outcome : SetOutcome p n s d series lent (basis_says answer) left
   pub in_words : words ≡ answer_words answer

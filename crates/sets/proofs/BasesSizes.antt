@@ -1,5 +1,5 @@
 -- The admitted sizes of document 01 for many sets, in that many words, as they are known where no test of the whole call holds.
-use Rattle.std.specs.Prelude.{◌≡◌, List, ℕ, ◌*◌, ◌≤◌, length}
+use Rattle.std.proofs.Common.{◌≡◌, List, ℕ, ◌*◌, ◌≤◌, length}
 use Rattle.field.specs.Modulus.{Modulus}
 use Rattle.words.specs.Some.{Some}
 use Rattle.sizes.specs.Entry.{EntryOutside}
