@@ -19,8 +19,7 @@ use Rattle.words.specs.Polynomial.{poly}
 use Rattle.row.specs.View.{vector, row}
 use Rattle.step.specs.Offset.{offset_of, TypeWords}
 use Rattle.step.proofs.Order.{type_offset}
-use Rattle.words.specs.Some.{Some}
-use Rattle.sizes.specs.Entry.{EntryOutside, type_of}
+use Rattle.sizes.specs.Entry.{type_of}
 use Rattle.sizes.proofs.Entry.{outside_above}
 use Rattle.solve.specs.Found.{BasisFound}
 use Rattle.pade.specs.PairSizes.{PairSizes}
@@ -43,9 +42,6 @@ entries_small : (k N : ℕ) → k ≤ N → N ≤ 255 → (i : ℕ) → get_or (
 entries_small k N h g zero = omega arith
 entries_small k N h g (suc zero) = omega arith
 entries_small k N h g (suc (suc i)) = omega arith
-
-pub entries_admitted : (k N : ℕ) → k ≤ N → N ≤ 255 → ¬ (Some EntryOutside (pair_words k N))
-entries_admitted k N h g some = omega (arith, outside_above _ some.2, entries_small k N h g some.0)
 
 pair_type_words : (k N : ℕ) → k ≤ N → N ≤ 255 → TypeWords 2 (pair_words k N)
 pair_type_words k N h g = record { count = refl; inside = λ i hi o. omega (arith, outside_above (get_or (pair_words k N) i 0) o, entries_small k N h g i) }

@@ -1,13 +1,14 @@
 -- The least row divided by the constant term of its t is the fraction in lowest terms; where that term is zero there is no fraction.
-use mathlib.Core.Path.{◌≡◌, sym, ◌∙◌, fun_ext}
-use mathlib.Core.Logic.{inl, inr}
-use mathlib.Core.Bool.{Bool}
+use mathlib.Core.Path.{◌≡◌, refl, sym, ◌∙◌, fun_ext}
 use mathlib.Core.List.{List}
 use Prim.Native.Nat.{ℕ, ◌+◌, ◌*◌, ◌≤◌, ◌<◌}
-use native.Mathlib.Nat.{mul-zero, zero-mod}
+use native.Mathlib.Nat.{mul-zero, zero-mul, one-mul, zero-mod}
 use native.Mathlib.Decide.{dec_lt}
 use native.Mathlib.Omega.{arith}
-use lib.ListN.{length}
+use lib.ListN.{length, take, drop, length-drop}
+use Rattle.std.specs.Prelude.{Result, Ok, Err}
+use Rattle.std.proofs.lemmas.List.{take_all}
+use Rattle.field.specs.declared.Refusal.{Refusal}
 use Rattle.words.specs.Polynomial.{poly}
 use Rattle.words.specs.Part.{part}
 use Rattle.words.proofs.Part.{part_fits, part_length}
@@ -34,20 +35,32 @@ entry_words g basis i j = part (length g + 1) j (part (2 * (length g + 1)) i bas
 
 -- the row lies in the basis, and each entry in the row
 module _ {p k : ℕ} {g basis : List ℕ} {i : ℕ} (f : LeastPair p k g basis i) where
-  pub row_fits : i * (2 * (length g + 1)) + 2 * (length g + 1) ≤ length basis
+  row_fits : i * (2 * (length g + 1)) + 2 * (length g + 1) ≤ length basis
   row_fits = rw f.full (part_fits 2 (2 * (length g + 1)) i f.row_of_two)
 
-  pub entry_fits : (j : ℕ) → j < 2 → j * (length g + 1) + (length g + 1) ≤ length (part (2 * (length g + 1)) i basis)
-  entry_fits j h = rw (part_length (2 * (length g + 1)) i basis row_fits) (part_fits 2 (length g + 1) j h)
+  pub row_length : length (part (2 * (length g + 1)) i basis) ≡ 2 * (length g + 1)
+  row_length = part_length (2 * (length g + 1)) i basis row_fits
 
   pub entry_length : (j : ℕ) → j < 2 → length (entry_words g basis i j) ≡ length g + 1
-  entry_length j h = part_length (length g + 1) j (part (2 * (length g + 1)) i basis) (entry_fits j h)
+  entry_length j h = part_length (length g + 1) j (part (2 * (length g + 1)) i basis) (rw row_length (part_fits 2 (length g + 1) j h))
+
+  -- cut in two, it is its entries
+  pub front_is : take (length g + 1) (part (2 * (length g + 1)) i basis) ≡ entry_words g basis i 0
+  unfolding part
+  front_is = rw zero-mul refl
+
+  pub back_is : drop (length g + 1) (part (2 * (length g + 1)) i basis) ≡ entry_words g basis i 1
+  unfolding part
+  back_is =
+      let w = length g + 1 in
+      let r = part (2 * w) i basis in
+      sym (rw (one-mul w) (take_all w (drop w r) (omega (arith, length-drop w r, row_length))))
 
   pub constant_small : PairSizes p k g → poly (entry_words g basis i 1) 0 < p
   unfolding row vector
   constant_small z = (denominator_polynomial z.modulus.prime z.k_from z.k_to f.pair).small 0
 
-module _ {p k : ℕ} {g basis : List ℕ} {i : ℕ} (f : LeastPair p k g basis i) {r t : List ℕ} (z : PairLent p k g (length r) (length t)) where
+module _ {p k : ℕ} {g basis : List ℕ} {i : ℕ} (f : LeastPair p k g basis i) (r t : List ℕ) (z : PairLent p k g (length r) (length t)) where
   written : {r' t' : List ℕ} → Divided p (entry_words g basis i 0) (entry_words g basis i 1) r t r' t' → PairWritten p k g r' t'
   unfolding row vector
   written {r'} {t'} d =
@@ -61,9 +74,9 @@ module _ {p k : ℕ} {g basis : List ℕ} {i : ℕ} (f : LeastPair p k g basis i
         lowest = rw (er, et) (scaled_pair_is_lowest pr s.k_from s.k_to f.pair d.factor d.inverse);
       }
 
-  pub fraction_or_none : (said : Bool) (r' t' : List ℕ) → DividedUnlessZero p (entry_words g basis i 0) (entry_words g basis i 1) r t said r' t' → FractionOrNone p k g r t said r' t'
+  pub fraction_or_none : (said : Result Unit Refusal) (r' t' : List ℕ) → DividedUnlessZero p (entry_words g basis i 0) (entry_words g basis i 1) r t said r' t' → FractionOrNone p k g r t said r' t'
   unfolding row vector
-  fraction_or_none said r' t' (inl a) = inl (a.0, written a.1)
-  fraction_or_none said r' t' (inr b) =
+  fraction_or_none (Ok u) r' t' d = written d
+  fraction_or_none (Err e) r' t' b =
       let s = z.sizes in
-      inr (b.0, no_fraction_at_zero s.modulus.prime s.k_from s.k_to f.pair b.1, b.2, b.3)
+      (b.0, no_fraction_at_zero s.modulus.prime s.k_from s.k_to f.pair b.1, b.2, b.3)

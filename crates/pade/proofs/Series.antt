@@ -5,8 +5,9 @@ use Prim.Native.Nat.{ℕ, zero, suc, ◌+◌, ◌*◌, ◌-◌, ◌≤◌}
 use native.Mathlib.Nat.{one-mul}
 use native.Mathlib.Decide.{ℕ_discrete, dec_lt}
 use native.Mathlib.Omega.{arith}
-use lib.ListN.{length, set, length-set}
+use lib.ListN.{length, set, length-set, take, replicate}
 use lib.Seq.{get_or-set_same, get_or-set_other}
+use Rattle.std.proofs.lemmas.List.{take-replicate, length-replicate}
 use borrow.Rule.Slice.PartMut.{put_mid}
 use Rattle.relation.specs.Pair.{pair_series}
 use Rattle.relation.proofs.Pair.{minus_one_ends}
@@ -14,6 +15,7 @@ use Rattle.words.specs.Polynomial.{poly}
 use Rattle.row.specs.View.{vector}
 use Rattle.words.specs.Part.{part}
 use Rattle.words.proofs.Part.{put, put_length, put_same, put_other}
+use Rattle.row.proofs.Unit.{zero_word}
 use Rattle.row.proofs.Part.{part_at, row_ext, vector_high}
 
 -- past the second series there is nothing
@@ -49,8 +51,18 @@ module _ (p N : ℕ) (zs g : List ℕ) (hN : 1 ≤ N) (g-full : length g ≡ N) 
       ])
       (no_third p (poly g))
 
-  pub pair_words_are : vector N (put_mid N (N + N - N) (set zs 0 (p - 1)) g) ≡ pair_series p (poly g)
-  pair_words_are = rw (one-mul N) at at_one
+  -- what is left of the words after the first N is N again
+  rest : length (set zs 0 (p - 1)) - N ≡ N + N - N
+  rest = omega (arith, length-set zs 0 (p - 1))
 
-  pub pair_length : length (put_mid N (N + N - N) (set zs 0 (p - 1)) g) ≡ length zs
-  pair_length = rw (one-mul N) at (put_length N 1 (set zs 0 (p - 1)) g fits g-full ∙ length-set zs 0 (p - 1))
+  pair_words_are : vector N (put_mid N (length (set zs 0 (p - 1)) - N) (set zs 0 (p - 1)) g) ≡ pair_series p (poly g)
+  pair_words_are = rw rest (rw (one-mul N) at at_one)
+
+-- the front of cleared words, after -1 and g were written to it
+pub series_are : (p : ℕ) (g : List ℕ) → 1 ≤ length g → length g ≤ 255 →
+    let N = length g in
+    let xs = set (take (2 * N) (replicate {A = ℕ} 510 0)) 0 (p - 1) in
+    vector N (put_mid N (length xs - N) xs g) ≡ pair_series p (poly g)
+series_are p g h k =
+    let cleared : take (2 * length g) (replicate {A = ℕ} 510 0) ≡ replicate {A = ℕ} (2 * length g) 0 = take-replicate (2 * length g) 510 0 (omega arith) in
+    rw cleared (pair_words_are p (length g) (replicate (2 * length g) 0) g h refl (length-replicate _ 0) (zero_word (2 * length g)))

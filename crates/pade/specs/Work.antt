@@ -1,5 +1,6 @@
 -- What the parts of the pair call leave: the least row of -1 and g, words divided by a constant term, a fraction or none.
-use Rattle.std.specs.Prelude.{◌≡◌, ◌⊎◌, Bool, true, false, List, ℕ, ◌+◌, ◌<◌, length}
+use Rattle.std.specs.Prelude.{◌≡◌, Result, Ok, Err, List, ℕ, ◌+◌, ◌<◌, length}
+use Rattle.field.specs.declared.Refusal.{Refusal}
 use Rattle.field.specs.Inverse.{Inverse}
 use Rattle.words.specs.Polynomial.{poly}
 use Rattle.sizes.specs.Lengths.{basis_length}
@@ -28,11 +29,11 @@ pub record Divided (p : ℕ) (a b r t r' t' : List ℕ) : Type 0 where
   pub second : Scaled p factor b t' (length t)
 
 -- they are written to r and t, unless that term is zero
-abbrev pub DividedUnlessZero : ℕ → List ℕ → List ℕ → List ℕ → List ℕ → Bool → List ℕ → List ℕ → Type 0
-DividedUnlessZero p a b r t said r' t' =
-    ((said ≡ true) × Divided p a b r t r' t') ⊎ ((said ≡ false) × (poly b 0 ≡ 0) × (r' ≡ r) × (t' ≡ t))
+abbrev pub DividedUnlessZero : ℕ → List ℕ → List ℕ → List ℕ → List ℕ → Result Unit Refusal → List ℕ → List ℕ → Type 0
+DividedUnlessZero p a b r t (Ok u) r' t' = Divided p a b r t r' t'
+DividedUnlessZero p a b r t (Err e) r' t' = (e ≡ Refusal.NoFraction) × (poly b 0 ≡ 0) × (r' ≡ r) × (t' ≡ t)
 
 -- a fraction is written to r and t, or there is none
-abbrev pub FractionOrNone : ℕ → ℕ → List ℕ → List ℕ → List ℕ → Bool → List ℕ → List ℕ → Type 0
-FractionOrNone p k g r t said r' t' =
-    ((said ≡ true) × PairWritten p k g r' t') ⊎ ((said ≡ false) × (¬ (HasFraction p k (length g) (poly g))) × (r' ≡ r) × (t' ≡ t))
+abbrev pub FractionOrNone : ℕ → ℕ → List ℕ → List ℕ → List ℕ → Result Unit Refusal → List ℕ → List ℕ → Type 0
+FractionOrNone p k g r t (Ok u) r' t' = PairWritten p k g r' t'
+FractionOrNone p k g r t (Err e) r' t' = (e ≡ Refusal.NoFraction) × (¬ (HasFraction p k (length g) (poly g))) × (r' ≡ r) × (t' ≡ t)

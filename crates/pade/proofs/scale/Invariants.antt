@@ -1,13 +1,8 @@
 -- `scale` meets its contract: below x the words are the multiples.
-use Prim.Native.Nat.{◌-◌, ◌≤◌}
-use lib.ListN.{length}
 use Rattle.words.specs.Polynomial.{poly}
 use Rattle.words.proofs.Written.{Written}
 use Rattle.relation.specs.Operations.{scaled}
 use Rattle.pade.proofs.scale.Given as goal
 
 abbrev pub invariant-loop-x : goal.invariant-loop-x
-invariant-loop-x l = (l.x ≤ length l.initial.into) × Written (scaled l.f.modulus l.h (poly l.from)) l.initial.into l.into l.x
-
-abbrev pub decreases-loop-x : goal.decreases-loop-x
-decreases-loop-x l = length l.initial.into - l.x
+invariant-loop-x l = Written (scaled l.f.modulus l.h (poly l.from)) l.initial.into l.into l.x
