@@ -3,7 +3,7 @@
 #![tactic(auto)]
 
 use jobfile::FILE_BYTES;
-use jobmake::{MESSAGE_BYTES, Made};
+use jobmake::MESSAGE_BYTES;
 use std::io;
 
 // A text that fills the buffer may go on, so it is not read.
@@ -18,7 +18,7 @@ fn main(rt: HostRuntime) -> io::Result<()> {
     let mut file = [0u8; FILE_BYTES];
     let mut message = [0u8; MESSAGE_BYTES];
     match jobmake::make_file(&text[..n], &mut file, &mut message) {
-        Made::File(k) => rt.stdout().write_all(&file[..k]),
-        Made::Message(k) => rt.stderr().write_all(&message[..k]),
+        Ok(length) => rt.stdout().write_all(&file[..length]),
+        Err(e) => rt.stderr().write_all(&message[..e.length]),
     }
 }

@@ -2,15 +2,15 @@
 use mathlib.Core.Path.{◌≡◌, refl, ap, sym, ◌∙◌}
 use mathlib.Core.Bool.{Bool, true, false}
 use mathlib.Core.List.{List, [], ◌∷◌}
-use Prim.Native.Nat.{ℕ, zero, suc, ◌≤◌, ◌<◌}
-use native.Mathlib.Decide.{dec_lt, dec_le}
+use Prim.Native.Nat.{ℕ, zero, suc, ◌<◌}
 use native.Mathlib.Omega.{arith}
 use lib.ListN.{length, get_or}
 use borrow.Author.Tests.{ltb-true}
 use Rattle.field.specs.Modulus.{Modulus}
 use Rattle.field.proofs.ModulusTest.{modulus_test}
 use Rattle.jobfile.specs.Job.{Admitted, job_of}
-use Rattle.tokens.specs.declared.Numeral.{Numeral}
+use Rattle.std.specs.Prelude.{Result, Ok, Err}
+use Rattle.tokens.specs.declared.NumeralError.{NumeralError}
 use Rattle.jobtext.specs.declared.Slip.{Slip}
 use Rattle.tokens.specs.Tokens.{Tokens, text_end, word}
 use Rattle.tokens.specs.Number.{numeral_of}
@@ -18,7 +18,7 @@ use Rattle.field.specs.ModulusTest.{is_modulus}
 use Rattle.sizes.specs.Entry.{is_entry}
 use Rattle.sizes.proofs.Entry.{entry_test}
 use Rattle.jobtext.specs.Job.{JobText, job, wrong, tested, one_number, many_numbers, at_end, is_count, is_below, from_series, from_type, from_order, from_count, job_of_text}
-use Rattle.jobtext.proofs.Reading.{one_is, one_not, one_large, test_passed, test_failed, count_low, count_high}
+use Rattle.jobtext.proofs.Reading.{one_is, one_not, test_passed, test_failed, count_most}
 
 -- a job that is admitted, or none
 unfoldable pub Right : JobText → Type 0
@@ -28,9 +28,6 @@ Right (wrong slip line) = Unit
 -- every number of a list passes the test
 abbrev Pass : (ℕ → Bool) → List ℕ → Type 0
 Pass ok l = (i : ℕ) → i < length l → ok (get_or l i 0) ≡ true
-
-not_both : (b : Bool) → b ≡ true → b ≡ false → ⊥
-not_both b e f = let z : ◌≡◌ {A = ℕ} 0 1 = cc in omega arith
 
 one_right : (ok : ℕ → Bool) (slip : Slip) (go : ℕ → Tokens → JobText) (t : Tokens)
     → ((v : ℕ) (u : Tokens) → ok v ≡ true → Right (go v u)) → Right (one_number ok slip go t)
@@ -42,10 +39,9 @@ one_right ok slip go (word l w t) h = by (numeral_of w) refl
     passed v true e = rw (test_passed ok slip go v l t e) (h v t e)
     passed v false e = rw (test_failed ok slip go v l t e) tt
 
-    by : (r : Numeral) → r ≡ numeral_of w → Right (one_number ok slip go (word l w t))
-    by (Numeral.Is v) e = rw (one_is ok slip go l w t (word l w t) v refl e) (passed v (ok v) refl)
-    by Numeral.NotNumber e = rw (one_not ok slip go l w t (word l w t) refl e) tt
-    by Numeral.TooLarge e = rw (one_large ok slip go l w t (word l w t) refl e) tt
+    by : (r : Result ℕ NumeralError) → r ≡ numeral_of w → Right (one_number ok slip go (word l w t))
+    by (Ok v) e = rw (one_is ok slip go l w t (word l w t) v refl e) (passed v (ok v) refl)
+    by (Err q) e = rw (one_not ok slip go l w t (word l w t) q refl e) tt
 
 pass_more : (ok : ℕ → Bool) (v : ℕ) (l : List ℕ) → ok v ≡ true → Pass ok l → Pass ok (v ∷ l)
 pass_more ok v l e h zero b = e
@@ -71,12 +67,6 @@ all_below limit h [] pass i = h
 all_below limit h (v ∷ l) pass zero = ltb-true _ _ (pass 0 (omega arith))
 all_below limit h (v ∷ l) pass (suc i) = all_below limit h l (λ k b. pass (suc k) (omega arith)) i
 
-is_count_sound : (n : ℕ) → is_count n ≡ true → (1 ≤ n) × (n ≤ 8)
-is_count_sound n e = (
-  elim (dec_lt n 1) [ yes l ↦ absurd (not_both (is_count n) e (count_low n l)) | no l ↦ omega arith ],
-  elim (dec_le n 8) [ yes l ↦ l | no l ↦ absurd (not_both (is_count n) e (count_high n (omega arith))) ],
-)
-
 pub text_right : (text : List ℕ) → Right (job_of_text text)
 unfolding Right job_of_text from_count from_order from_type from_series is_below
 text_right text =
@@ -88,8 +78,8 @@ text_right text =
     let m : Modulus p = (modulus_test p).0 ep in
     ended_right (job p n s d f) x record {
       modulus = m;
-      n_from = (is_count_sound n en).0;
-      n_to = (is_count_sound n en).1;
+      n_from = (count_most n en).0;
+      n_to = (count_most n en).1;
       s_to = omega (arith, ltb-true s 256 es);
       type_length = fd;
       series_length = ff;

@@ -2,52 +2,56 @@
 #![tactic(auto)]
 
 ghost use Rattle.std.specs.Prelude.{◌≡◌, length};
-ghost use Rattle.jobfile.specs.Job.{Admitted, job_of};
+ghost use Rattle.jobfile.specs.Job.{Admitted, lent_job};
 ghost use Rattle.jobfile.specs.Layout.{layout};
 ghost use Rattle.words.specs.Lent.{over};
 ghost use Rattle.jobtext.specs.Job.{job_of_text};
 ghost use Rattle.jobmake.specs.MadeOf.{MadeOf};
 
-use jobfile::{FILE_BYTES, SERIES_WORDS, TYPE_WORDS, WriteAnswer};
-use jobtext::Parsed;
+use jobfile::{FILE_BYTES, SERIES_WORDS, TYPE_WORDS};
+use sizes::Job;
 
 // Every message fits.
 pub const MESSAGE_BYTES: usize = 128;
 
-// How many bytes the file takes, or the message.
-#[derive(Clone, Copy)]
-pub enum Made {
-    File(usize),
-    Message(usize),
+// A message in place of the file: how many bytes it takes.
+#[derive(Clone, Copy, Debug, PartialEq, Eq)]
+pub struct Message {
+    pub length: usize,
 }
 
-// The file of an admitted job. The writer does not refuse it, so the second case never comes.
-fn lay_out(p: u32, n: u32, s: u32, d: &[u32], series: &[u32], file: &mut [u8; FILE_BYTES]) -> usize
-    requires { Admitted (job_of p n s d.now series.now) }
-    ensures { (result ≡ length (layout (job_of p n s d.now series.now))) × (file.new ≡ over (layout (job_of p n s d.now series.now)) file.old) }
+// The file of an admitted job, which the writer does not refuse.
+fn lay_out(job: Job<'_>, file: &mut [u8; FILE_BYTES]) -> usize
+    requires { Admitted (lent_job job) }
+    ensures { (result ≡ length (layout (lent_job job.entry))) × (file.new ≡ over (layout (lent_job job.entry)) file.old) }
 {
-    match jobfile::write_job(p, n, s, d, series, file) {
-        WriteAnswer::Blocks(m) => m as usize * 512,
-        WriteAnswer::Refused(_) => 0,
-    }
+    jobfile::write_job(job, file).unwrap() as usize * 512
 }
 
-// The text's job file, written to the first buffer, or the message, written to the second.
+// The text's job file, written to the first buffer, whose length is answered; or the message, written to the second.
 pub fn make_file(
     text: &[u8],
     file: &mut [u8; FILE_BYTES],
     message: &mut [u8; MESSAGE_BYTES],
-) -> Made
+) -> Result<usize, Message>
     ensures { MadeOf (job_of_text text.now) result file.old file.new message.old message.new }
 {
     let mut d = [0u32; TYPE_WORDS];
     let mut series = [0u32; SERIES_WORDS];
     match jobtext::parse(text, &mut d, &mut series) {
-        Parsed::Job(job) => {
-            let rows = job.n as usize;
-            let words = rows * job.s as usize;
-            Made::File(lay_out(job.p, job.n, job.s, &d[..rows], &series[..words], file))
+        Ok(sizes) => {
+            let entries = sizes.n as usize;
+            let coefficients = entries * sizes.s as usize;
+            let job = Job {
+                sizes,
+                d: &d[..entries],
+                series: &series[..coefficients],
+            };
+            Ok(lay_out(job, file))
         }
-        Parsed::Wrong { slip, line } => Made::Message(jobtext::write_message(slip, line, message)),
+        Err(fault) => {
+            let length = jobtext::write_message(fault, message);
+            Err(Message { length })
+        }
     }
 }

@@ -8,49 +8,49 @@ use Rattle.jobtext.specs.Job.{job_of_text}
 use Rattle.jobmake.proofs.Admitted.{text_right}
 use Rattle.jobmake.proofs.MadeOf.{Read, parsed_job, parsed_wrong, made_file, made_message}
 use Rattle.jobmake.proofs.make_file.Goals as goal
-use Rattle.jobmake.proofs.make_file.Goals.{In-Job}
+use Rattle.jobmake.proofs.make_file.Goals.{In-Ok}
 
 -- the job, in the words that the parser left; its sizes are read there
-job : (c : In-Job) →
-    let q = c.in-Job.job in
+job : (c : In-Ok) →
+    let q = c.in-Ok.sizes in
     Read (job_of_text c.args.text.now) q.p q.n q.s c.parse.new.types c.parse.new.series
 job c =
-    parsed_job _ _ _ _ _ _ (text_right _) c.parse.ensures _ c.in-Job.is
+    parsed_job _ _ _ _ _ _ (text_right _) c.parse.ensures _ c.in-Ok.is
 
-few : (c : In-Job) →
-    let q = c.in-Job.job in
+few : (c : In-Ok) →
+    let q = c.in-Ok.sizes in
     (q.n ≤ 8) × (q.s ≤ 255) × (q.n * q.s ≤ 2040)
 few c =
     let a = (job c).admitted in
     (a.n_to, a.s_to, series_small _ _ a.n_to a.s_to)
 
-pub overflow_mul-words : goal.overflow_mul-words
-overflow_mul-words c = omega (arith, few (goal.at.overflow_mul-words c).In-Job)
+pub overflow_mul-coefficients : goal.overflow_mul-coefficients
+overflow_mul-coefficients c = omega (arith, few (goal.at.overflow_mul-coefficients c).In-Ok)
 
 pub slice_bounds-d-end : goal.slice_bounds-d-end
 slice_bounds-d-end c =
-    omega (arith, (job (goal.at.slice_bounds-d-end c).In-Job).admitted.type_length, length-take c.in-Job.job.n c.parse.new.types)
+    omega (arith, (job (goal.at.slice_bounds-d-end c).In-Ok).admitted.type_length, length-take c.in-Ok.sizes.n c.parse.new.types)
 
-pub slice_bounds-lay_out-end : goal.slice_bounds-lay_out-end
-slice_bounds-lay_out-end c = sym (job (goal.at.slice_bounds-lay_out-end c).In-Job).admitted.type_length
+pub slice_bounds-job-end : goal.slice_bounds-job-end
+slice_bounds-job-end c = sym (job (goal.at.slice_bounds-job-end c).In-Ok).admitted.type_length
 
 pub slice_bounds-series-end : goal.slice_bounds-series-end
 slice_bounds-series-end c =
-    let q = c.in-Job.job in
-    omega (arith, (job (goal.at.slice_bounds-series-end c).In-Job).admitted.series_length, length-take (q.n * q.s) c.parse.new.series)
+    let q = c.in-Ok.sizes in
+    omega (arith, (job (goal.at.slice_bounds-series-end c).In-Ok).admitted.series_length, length-take (q.n * q.s) c.parse.new.series)
 
-pub slice_bounds-lay_out-end-in-Job : goal.slice_bounds-lay_out-end-in-Job
-slice_bounds-lay_out-end-in-Job c = sym (job (goal.at.slice_bounds-lay_out-end-in-Job c).In-Job).admitted.series_length
+pub slice_bounds-job-end-in-Ok : goal.slice_bounds-job-end-in-Ok
+slice_bounds-job-end-in-Ok c = sym (job (goal.at.slice_bounds-job-end-in-Ok c).In-Ok).admitted.series_length
 
 pub lay_out-requires : goal.lay_out-requires
-lay_out-requires c = (job (goal.at.lay_out-requires c).In-Job).admitted
+lay_out-requires c = (job (goal.at.lay_out-requires c).In-Ok).admitted
 
-pub returns-in-Job : goal.returns-in-Job
-returns-in-Job c =
+pub returns-in-Ok : goal.returns-in-Ok
+returns-in-Ok c =
     let made = c.lay_out.ensures in
-    made_file _ _ _ _ _ _ _ _ _ _ (job (goal.at.returns-in-Job c).In-Job).same made.0 made.1
+    made_file _ _ _ _ _ _ _ _ _ _ (job (goal.at.returns-in-Ok c).In-Ok).same made.0 made.1
 
-pub returns-in-Wrong : goal.returns-in-Wrong
-returns-in-Wrong c =
-    let made = c.write_message.ensures in
-    made_message _ _ _ _ _ _ _ (parsed_wrong _ _ _ _ _ _ c.parse.ensures _ _ c.in-Wrong.is) made.0 made.1
+pub returns-in-Err : goal.returns-in-Err
+returns-in-Err c =
+    let made = c.write_message-length.ensures in
+    made_message _ _ _ _ _ _ _ (parsed_wrong _ _ _ _ _ _ c.parse.ensures _ c.in-Err.is) made.0 made.1
