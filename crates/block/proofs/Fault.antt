@@ -1,6 +1,5 @@
 -- Faults of blocks in turn: how a scan finds the first, and that there is none exactly where each block has its number and is sound.
 use Rattle.std.proofs.Common.{◌≡◌, ℕ, zero, suc, ◌+◌, ◌-◌, ◌*◌, ◌<◌, ◌≤◌, ◌≢◌, List, Result, Ok, Err, take, drop, ◌∙◌, add-zero, arith, drop-drop}
-use native.Mathlib.Nat.{sub-zero}
 use Rattle.field.specs.declared.Refusal.{Refusal}
 use Rattle.field.specs.Refusal.{Order, NoTest}
 use Rattle.field.specs.Calls.{Tests}
@@ -49,10 +48,7 @@ module _ (first count : ℕ) (l : List ℕ) (b x : ℕ) (h : b < count) (is : x 
       let f : first + (b + 1) ≡ suc (first + b) = omega arith in
       rw left (passed (first + b) (count - (b + 1)) (drop (512 * b) l) (rw is at n) (rw is at s) t (rw (d, ← f) r))
 
--- at the start all are left, and none after the last
-pub all_left : (first count : ℕ) (l : List ℕ) (t : Result Unit Refusal) → Tests (faults_from first count l 0) t → Tests (faults first count l) t
-all_left first count l t h = simp (add-zero, sub-zero) at h
-
+-- none is left after the last
 pub none_left : (first count : ℕ) (l : List ℕ) (b : ℕ) → count ≤ b → Tests (faults_from first count l b) (Ok tt)
 unfolding faults
 none_left first count l b h = let e : count - b ≡ 0 = omega arith in rw e (no_more tt)

@@ -79,7 +79,7 @@ struct LentBlock<'a> {
     ghost whole: { length bytes.now ≡ 512 },
 }
 
-impl<'a> LentBlock<'a> {
+impl LentBlock<'_> {
     fn number(self) -> u32
         ensures { result ≡ number_of self.entry.bytes.now }
     {

@@ -130,7 +130,6 @@ pub record ReadFits (file : List ℕ) (n s x y : ℕ) : Type 0 where
   pub type_lent : x ≡ type_words
   pub type_few : n ≤ type_words
   pub series_fits : n * s ≤ y
-  pub series_few : n * s ≤ series_words
   pub in_file : word_count n s ≤ 125 * blocks_in file
 
 pub reader_fits : (file : List ℕ) (x y n s : ℕ) → NoTest (reader_order file x y) → n ≡ payload_at file 1 → s ≡ payload_at file 2
@@ -143,6 +142,5 @@ reader_fits file x y n s t en es =
       type_lent = lent.d_words;
       type_few = rw en sizes.n_to;
       series_fits = omega arith;
-      series_few = few;
       in_file = count_fits file _ (rw (en, es) (reader_blocks file x y t));
     }

@@ -14,6 +14,10 @@ use Rattle.sizes.specs.Orders.{sizes_order}
 use Rattle.sizes.proofs.Entry.{outside_above}
 use Rattle.sizes.proofs.Passed.{sizes_pass}
 use Rattle.engine.specs.Orders.{buffers_order, basis_order}
+use Rattle.std.proofs.Common.{Result, Ok, Err, IsOk, refl}
+use Rattle.field.specs.declared.Refusal.{Refusal}
+use Rattle.engine.specs.declared.BasisResult.{BasisResult}
+use Rattle.engine.specs.Answers.{basis_says}
 use Rattle.engine.specs.Basis.{BasisAnswered, BasisOutcome}
 use Rattle.field.proofs.Outcome.{answer, none_both, no_result_refused}
 use Rattle.field.proofs.Truth.{no_either, exact}
@@ -59,8 +63,9 @@ module _ (j : Job) (ad : Admitted j) where
     unfolding BasisOutcome
     answered = answer _ _ _ worked (passes (length lent) full)
 
-    pub not_refused : (k : ℕ) → said ≡ refusal k → ⊥
-    not_refused k e = no_result_refused (sym answered.says ∙ e)
+    pub answers : (r : Result BasisResult Refusal) → said ≡ basis_says r → IsOk r
+    answers (Ok b) e = refl
+    answers (Err f) e = absurd (no_result_refused (sym answered.says ∙ e))
 
     pub printed : (least count : ℕ) (before after : List ℕ) (wrote : Answer) → said ≡ result (least ∷ count ∷ [])
         → BasisTextOutcome j.p j.n j.s j.d left least before after wrote → JobPrintOutcome j before after wrote

@@ -4,6 +4,8 @@ use mathlib.Core.Logic.{inl, inr}
 use mathlib.Core.List.{List}
 use Prim.Native.Nat.{ℕ}
 use lib.ListN.{length}
+use Rattle.std.proofs.Common.{Result}
+use Rattle.field.specs.declared.Refusal.{Refusal}
 use Rattle.field.proofs.Outcome.{first_unique, first_or_none}
 use Rattle.solve.proofs.Found.{found_unique}
 use Rattle.jobfile.specs.Lengths.{type_words, series_words}
@@ -11,7 +13,6 @@ use Rattle.jobfile.specs.Job.{Job, Admitted}
 use Rattle.jobfile.specs.Orders.{reader_order}
 use Rattle.jobfile.proofs.LaidOut.{layout_passes}
 use Rattle.jobfile.proofs.Theorems.{layout_injective}
-use Rattle.report.specs.declared.TextAnswer.{TextAnswer}
 use Rattle.report.specs.Calls.{text_says, refusal_text_order}
 use Rattle.report.proofs.Calls.{text_unique}
 use Rattle.jobreport.specs.Printed.{BasisText, BasisPrinted, RefusalPrinted, Printed, PrintOutcome}
@@ -36,7 +37,7 @@ printed_unique file t t' (inr a) (inr b) =
     a.says ∙ rw (first_unique (reader_order file type_words series_words) a.number b.number a.first b.first) (sym b.says)
 
 -- answer and buffer are determined
-pub print_unique : (file before : List ℕ) (r r' : TextAnswer) (after after' : List ℕ)
+pub print_unique : (file before : List ℕ) (r r' : Result ℕ Refusal) (after after' : List ℕ)
     → PrintOutcome file before after (text_says r) → PrintOutcome file before after' (text_says r') → (r ≡ r') × (after ≡ after')
 unfolding PrintOutcome
 print_unique file before r r' after after' a b =

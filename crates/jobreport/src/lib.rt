@@ -4,57 +4,40 @@
 ghost use Rattle.std.specs.Prelude.{◌≡◌, length};
 ghost use Rattle.report.specs.Calls.{text_says};
 ghost use Rattle.sizes.specs.Lengths.{basis_length};
-ghost use Rattle.jobfile.specs.Job.{Admitted, job_of};
+ghost use Rattle.jobfile.specs.Job.{Admitted, lent_job};
 ghost use Rattle.jobreport.specs.Printed.{PrintOutcome, JobPrintOutcome};
 
-use engine::BasisAnswer;
-use jobfile::{JobAnswer, SERIES_WORDS, TYPE_WORDS};
-use report::TextAnswer;
+use field::Refusal;
+use jobfile::{SERIES_WORDS, TYPE_WORDS};
+use sizes::Job;
 
 // The text of an admitted job's basis, which is worked out in the lent words.
-fn print_basis(
-    p: u32,
-    n: u32,
-    s: u32,
-    d: &[u32],
-    series: &[u32],
-    basis: &mut [u32],
-    out: &mut [u8],
-) -> TextAnswer
-    requires { Admitted (job_of p n s d.now series.now) × (length basis.old ≡ basis_length n s) }
-    ensures { JobPrintOutcome (job_of p n s d.now series.now) out.old out.new (text_says result) }
+fn print_basis(job: Job<'_>, basis: &mut [u32], out: &mut [u8]) -> Result<usize, Refusal>
+    requires { Admitted (lent_job job) × (length basis.old ≡ basis_length job.sizes.n job.sizes.s) }
+    ensures { JobPrintOutcome (lent_job job.entry) out.old out.new (text_says result) }
 {
-    match engine::basis(p, n, s, d, series, basis) {
-        BasisAnswer::Found(found) => report::write_basis(p, n, s, d, basis, found.least, out),
-        BasisAnswer::Refused(k) => report::write_refusal(k, out),
-    }
+    let found = engine::basis(job, basis).unwrap();
+    let sizes = job.sizes;
+    report::write_basis(sizes.p, sizes.n, sizes.s, job.d, basis, found.least, out)
 }
 
-pub fn print_job(file: &[u8], out: &mut [u8]) -> TextAnswer
+pub fn print_job(file: &[u8], out: &mut [u8]) -> Result<usize, Refusal>
     ensures { PrintOutcome file.now out.old out.new (text_says result) }
 {
     let mut d = [0u32; TYPE_WORDS];
     let mut series = [0u32; SERIES_WORDS];
     match jobfile::read_job(file, &mut d, &mut series) {
-        JobAnswer::Refused(k) => report::write_refusal(k, out),
-        JobAnswer::Job(job) => {
-            let p = job.p;
-            let n = job.n;
-            let s = job.s;
-            let rows = n as usize;
-            let order = s as usize;
-            let coefficients = rows * order;
-            let words = rows * (rows * (order + 1));
+        Ok(sizes) => {
+            let n = sizes.n as usize;
+            let s = sizes.s as usize;
             let mut basis = [0u32; 16384];
-            print_basis(
-                p,
-                n,
-                s,
-                &d[..rows],
-                &series[..coefficients],
-                &mut basis[..words],
-                out,
-            )
+            let job = Job {
+                sizes,
+                d: &d[..n],
+                series: &series[..n * s],
+            };
+            print_basis(job, &mut basis[..n * (n * (s + 1))], out)
         }
+        Err(refusal) => report::write_refusal(refusal.number(), out),
     }
 }

@@ -28,15 +28,6 @@ counted_and : (c : In_ok-test_count) (t : Result Unit Refusal)
     → Tests (content_tests c.args.file.now c.args.sizes.p c.args.sizes.n c.args.sizes.s) t
 counted_and c t h = and_then _ _ _ t c.in_ok-test_count.ensures h
 
-pub overflow_mul-size : goal.overflow_mul-size
-overflow_mul-size c = omega (arith, few (goal.at.overflow_mul-size c).Start)
-
-pub overflow_add-n-2 : goal.overflow_add-n-2
-overflow_add-n-2 c = omega (arith, few (goal.at.overflow_add-n-2 c).Start)
-
-pub test_count-requires : goal.test_count-requires
-test_count-requires c = omega (arith, few (goal.at.test_count-requires c).Start)
-
 pub returns-in_err-test_count : goal.returns-in_err-test_count
 returns-in_err-test_count c =
     let p = err_from_is_err_and c.from_residual.result c.from_residual.ensures.1 in

@@ -1,13 +1,12 @@
--- `print_basis` meets its contract: the basis call answers, since the job is admitted, and the text is that of the words it left.
-use mathlib.Core.Path.{ap}
+-- The basis call answers, since the job is admitted, and the text is that of the words it left.
+use Rattle.std.proofs.Common.{ap, refl}
 use Rattle.engine.specs.Answers.{basis_says}
-use Rattle.jobreport.proofs.Print.{printed, not_refused}
+use Rattle.jobreport.proofs.Print.{printed, answers}
 use Rattle.jobreport.proofs.print_basis.Goals as goal
 
-pub returns-in-Found : goal.returns-in-Found
-returns-in-Found c =
-    printed _ c.requires.0 _ _ c.requires.1 _ c.basis.ensures _ _ _ _ _ (ap basis_says c.in-Found.is) c.write_basis.ensures
+pub unwrap-found-requires : goal.unwrap-found-requires
+unwrap-found-requires c = answers _ c.requires.0 _ _ c.requires.1 _ c.basis.ensures c.basis.result refl
 
-pub returns-in-Refused : goal.returns-in-Refused
-returns-in-Refused c =
-    absurd (not_refused _ c.requires.0 _ _ c.requires.1 _ c.basis.ensures _ (ap basis_says c.in-Refused.is))
+pub returns : goal.returns
+returns c =
+    printed _ c.requires.0 _ _ c.requires.1 _ c.basis.ensures _ _ _ _ _ (ap basis_says c.unwrap-found.ensures) c.write_basis.ensures
