@@ -5,7 +5,7 @@ ghost use Rattle.std.specs.Prelude.{◌≤◌, length};
 ghost use Rattle.console.specs.PrintedIn.{PrintedIn};
 
 use jobfile::FILE_BYTES;
-use report::{TEXT, TextAnswer};
+use report::TEXT;
 use std::io;
 use std::io::{Read, Write};
 
@@ -23,14 +23,12 @@ pub fn read_full<R: Read>(input: &mut R, buffer: &mut [u8]) -> usize
     done
 }
 
-// How many bytes of the lent buffer the text takes. Every text fits, so the second case never comes.
+// How many bytes of the lent buffer the text takes. Every text fits.
+#[tactic(auto, using(crate::proofs::PrintedIn::not_refused, crate::proofs::PrintedIn::printed_where_ok))]
 fn text_length(file: &[u8], text: &mut [u8; TEXT]) -> usize
     ensures { PrintedIn file.now text.new result }
 {
-    match jobreport::print_job(file, text) {
-        TextAnswer::Length(k) => k,
-        TextAnswer::Refused(_) => 0,
-    }
+    jobreport::print_job(file, text).unwrap()
 }
 
 // One byte more than the largest file has is read, so that a longer input is refused by its length.
