@@ -1,9 +1,9 @@
 -- Appending texts: one after the other is their join, and there is room for each where there is room for the join.
---   wrote_none, wrote_append, wrote_same     what is written
---   room_first, room_rest, wrote_length      what is left of the buffer
---   wrote_each, room_each                    the same for loops
---   wrote_whole                              a text at the start
-use mathlib.Core.Path.{◌≡◌, refl, sym, ap, ◌∙◌, subst}
+--   wrote_none, wrote_append                what is written
+--   room_first, room_rest, wrote_length     what is left of the buffer
+--   wrote_each, room_each                   the same for loops
+--   wrote_whole, wrote_answer               a text at the start
+use mathlib.Core.Path.{◌≡◌, refl, sym, ap, ◌∙◌}
 use mathlib.Core.List.{List, [], ◌∷◌, ◌++◌}
 use Prim.Native.Nat.{ℕ, zero, suc, ◌+◌, ◌≤◌, ◌<◌}
 use native.Mathlib.Nat.{add-zero}
@@ -39,13 +39,6 @@ wrote_none x at = record { position = omega arith; bytes = refl }
 
 pub room_first : (a b : List ℕ) {x : List ℕ} {at : ℕ} → Room (a ++ b) x at → Room a x at
 room_first a b h = record { fits = omega (arith, h.fits, length-append a b) }
-
--- a text that is equal
-pub room_same : {a b x : List ℕ} {at : ℕ} → a ≡ b → Room a x at → Room b x at
-room_same {x = x} {at = at} e h = subst (λ (t : List ℕ). Room t x at) e h
-
-pub wrote_same : {a b x y : List ℕ} {at m : ℕ} → a ≡ b → Wrote a x at y m → Wrote b x at y m
-wrote_same {x = x} {y = y} {at = at} {m = m} e w = subst (λ (t : List ℕ). Wrote t x at y m) e w
 
 -- a loop that appends f k in turn k
 pub wrote_each : (f : ℕ → List ℕ) {x y z : List ℕ} {at m r : ℕ} (k : ℕ) → Wrote (each f k) x at y m → Wrote (f k) y m z r → Wrote (each f (k + 1)) x at z r
