@@ -1,4 +1,4 @@
-// Words that are lent: the parts that they are cut into, copies, and whether one is too large.
+// Words that are lent: the parts that they are cut into, and whether one is too large.
 #![tactic(auto)]
 
 ghost use Rattle.std.specs.Prelude.{◌≡◌, true, ◌↔◌, ◌+◌, ◌*◌, ◌≤◌, length};
@@ -13,17 +13,6 @@ pub fn part_at(words: &[u32], k: usize, w: usize) -> &[u32]
     let start = k * w;
     let end = start + w;
     &words[start..end]
-}
-
-pub fn copy(from: &[u32], into: &mut [u32])
-    requires { length from.now ≡ length into.old }
-    ensures { into.new ≡ from.now }
-{
-    let mut i = 0;
-    while i < from.len() {
-        into[i] = from[i];
-        i += 1;
-    }
 }
 
 // Whether some word is at least the bound.
