@@ -211,7 +211,7 @@ pub fn write_basis(
     Ok(text.at)
 }
 
-// The text of a refusal.
+// The text of a refusal. The number comes from C, so it may be any, and stays a u32.
 pub fn write_refusal(k: u32, out: &mut [u8]) -> Result<usize, Refusal>
     ensures { RefusalTextOutcome k out.old out.new (text_says result) }
 {
