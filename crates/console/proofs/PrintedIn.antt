@@ -11,7 +11,7 @@ use Rattle.field.specs.Refusal.{First, Outcome}
 use Rattle.field.specs.declared.Refusal.{Refusal}
 use Rattle.report.specs.Calls.{text_bytes, text_says}
 use Rattle.jobreport.specs.Printed.{PrintOutcome}
-use Rattle.jobreport.specs.Printed.n.{PrintedIn}
+use Rattle.console.specs.PrintedIn.{PrintedIn}
 
 module _ (file before after : List ℕ) where
   pub printed_where_ok : (k : ℕ) → PrintOutcome file before after (text_says (Ok k)) → PrintedIn file after k
