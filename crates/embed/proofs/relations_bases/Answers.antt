@@ -1,10 +1,8 @@
 -- The status of what `bases` says.
 use mathlib.Core.Path.{refl}
-use Rattle.embed.proofs.Given.{told}
+use Rattle.sets.specs.Answer.{bases_says}
+use Rattle.embed.proofs.Given.{told_result}
 use Rattle.embed.proofs.relations_bases.Goals as goal
 
-pub returns-in-Answered : goal.returns-in-Answered
-returns-in-Answered c = told _ _ _ c.bases.ensures (rw c.in-Answered.is refl)
-
-pub returns-in-Refused : goal.returns-in-Refused
-returns-in-Refused c = told _ _ _ c.bases.ensures (rw c.in-Refused.is refl)
+pub returns : goal.returns
+returns c = told_result bases_says (λ x. refl) (λ e. refl) _ _ c.bases.result c.bases.ensures c.status.ensures

@@ -1,10 +1,8 @@
 -- The status of what `make` says.
 use mathlib.Core.Path.{refl}
-use Rattle.embed.proofs.Given.{told}
+use Rattle.field.specs.Calls.{field_says}
+use Rattle.embed.proofs.Given.{told_result}
 use Rattle.embed.proofs.relations_modulus.Goals as goal
 
-pub returns-in-Is : goal.returns-in-Is
-returns-in-Is c = told _ _ _ c.make.ensures (rw c.in-Is.is refl)
-
-pub returns-in-Refused : goal.returns-in-Refused
-returns-in-Refused c = told _ _ _ c.make.ensures (rw c.in-Refused.is refl)
+pub returns : goal.returns
+returns c = told_result field_says (λ x. refl) (λ e. refl) _ _ c.make.result c.make.ensures c.status.ensures

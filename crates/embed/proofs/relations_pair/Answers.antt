@@ -1,10 +1,8 @@
 -- The status of what `pair` says.
 use mathlib.Core.Path.{refl}
-use Rattle.embed.proofs.Given.{told}
+use Rattle.pade.specs.Answer.{pair_says}
+use Rattle.embed.proofs.Given.{told_result}
 use Rattle.embed.proofs.relations_pair.Goals as goal
 
-pub returns-in-Written : goal.returns-in-Written
-returns-in-Written c = told _ _ _ c.pair.ensures (rw c.in-Written.is refl)
-
-pub returns-in-Refused : goal.returns-in-Refused
-returns-in-Refused c = told _ _ _ c.pair.ensures (rw c.in-Refused.is refl)
+pub returns : goal.returns
+returns c = told_result pair_says (λ x. refl) (λ e. refl) _ _ c.pair.result c.pair.ensures c.status.ensures

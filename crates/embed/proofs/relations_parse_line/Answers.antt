@@ -1,10 +1,9 @@
 -- The line that the parser answers is the text's.
-use mathlib.Core.Path.{sym, ap, ◌∙◌}
-use Rattle.embed.proofs.Parsing.{line_of, line_told}
+use mathlib.Core.Path.{◌∙◌}
+use borrow.Author.Rules.{rules}
+use Rattle.embed.proofs.Parsing.{line_chosen, line_told}
 use Rattle.embed.proofs.relations_parse_line.Goals as goal
 
-pub returns-in-Job : goal.returns-in-Job
-returns-in-Job c = sym (ap line_of c.in-Job.is) ∙ line_told _ c.parse.result _ _ _ _ c.parse.ensures
-
-pub returns-in-Wrong : goal.returns-in-Wrong
-returns-in-Wrong c = sym (ap line_of c.in-Wrong.is) ∙ line_told _ c.parse.result _ _ _ _ c.parse.ensures
+pub returns : goal.returns
+returns c =
+    line_chosen c.parse.result _ (λ x h. search rules) (λ e h. search rules) c.map_or_else.ensures ∙ line_told _ c.parse.result _ _ _ _ c.parse.ensures

@@ -1,11 +1,12 @@
 -- An answer slice of another length gives 4; else the wrapped call's outcome is told.
 use mathlib.Core.Path.{refl}
-use Rattle.embed.proofs.Given.{other_length, given}
+use Rattle.jobfile.specs.Answers.{job_says}
+use Rattle.embed.proofs.Given.{other_length, given_result}
 use Rattle.embed.proofs.relations_read.Goals as goal
 
-pub returns-then-answer-ne-JOB_ANSWER_LENGTH : goal.returns-then-answer-ne-JOB_ANSWER_LENGTH
-returns-then-answer-ne-JOB_ANSWER_LENGTH c = other_length _ _ _ _ c.if-answer-ne-JOB_ANSWER_LENGTH.true (refl, refl)
+pub returns-then-answer-ne-ANSWER_LENGTH : goal.returns-then-answer-ne-ANSWER_LENGTH
+returns-then-answer-ne-ANSWER_LENGTH c = other_length _ _ _ _ c.if-answer-ne-ANSWER_LENGTH.true (refl, refl)
 
 pub returns : goal.returns
 returns c =
-    given _ _ _ _ _ _ _ c.if-answer-ne-JOB_ANSWER_LENGTH.false c.read_job.ensures c.tell_job.ensures
+    given_result job_says (λ x. refl) (λ e. refl) _ _ _ _ _ _ c.read_job.result c.if-answer-ne-ANSWER_LENGTH.false c.read_job.ensures c.tell.ensures

@@ -1,17 +1,17 @@
 -- An answer slice of another length gives 4; else the wrapped call's outcome is told.
 use mathlib.Core.Path.{refl}
-use Rattle.embed.proofs.Given.{other_length, given}
-use Rattle.embed.proofs.Text.{refusal_text_fits}
 use borrow.Author.Rules.{rules}
+use Rattle.report.specs.Calls.{text_says}
+use Rattle.embed.proofs.Given.{other_length, given_result}
+use Rattle.embed.proofs.Text.{refusal_text_fits}
 use Rattle.embed.proofs.relations_refused.Goals as goal
 
-pub returns-then-answer-ne-COUNT_ANSWER_LENGTH : goal.returns-then-answer-ne-COUNT_ANSWER_LENGTH
-returns-then-answer-ne-COUNT_ANSWER_LENGTH c = other_length _ _ _ _ c.if-answer-ne-COUNT_ANSWER_LENGTH.true refl
+pub returns-then-answer-ne-ANSWER_LENGTH : goal.returns-then-answer-ne-ANSWER_LENGTH
+returns-then-answer-ne-ANSWER_LENGTH c = other_length _ _ _ _ c.if-answer-ne-ANSWER_LENGTH.true refl
 
-pub tell_text-requires : goal.tell_text-requires
-tell_text-requires c =
-    (c.if-answer-ne-COUNT_ANSWER_LENGTH.false, refusal_text_fits _ _ _ c.write_refusal.result (search rules) c.write_refusal.ensures)
+pub tell-requires-clause-fits : goal.tell-requires-clause-fits
+tell-requires-clause-fits c = refusal_text_fits _ _ _ c.write_refusal.result (search rules) c.write_refusal.ensures
 
 pub returns : goal.returns
 returns c =
-    given _ _ _ _ _ _ _ c.if-answer-ne-COUNT_ANSWER_LENGTH.false c.write_refusal.ensures c.tell_text.ensures
+    given_result text_says (λ x. refl) (λ e. refl) _ _ _ _ _ _ c.write_refusal.result c.if-answer-ne-ANSWER_LENGTH.false c.write_refusal.ensures c.tell.ensures

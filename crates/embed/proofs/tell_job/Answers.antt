@@ -1,6 +1,0 @@
--- The three words of a job are written; on a refusal none is.
-use mathlib.Core.Path.{refl}
-use Rattle.embed.proofs.tell_job.Goals as goal
-
-pub returns-in-Job : goal.returns-in-Job
-returns-in-Job c = rw c.in-Job.is (refl, c.tell_sizes.ensures)
