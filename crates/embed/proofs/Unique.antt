@@ -4,16 +4,14 @@ use mathlib.Core.Logic.{◌⊎◌, inl, inr}
 use mathlib.Core.List.{List, [], ◌∷◌}
 use Prim.Native.Nat.{ℕ, ◌+◌}
 use lib.ListN.{length}
-use Rattle.std.specs.Prelude.{Option, Some, None, Result, Ok, Err}
+use Rattle.std.specs.Prelude.{Option, Some, None, Result, Ok}
 use Rattle.field.specs.Refusal.{Order, Outcome}
 use Rattle.field.specs.Answer.{Answer, result, refusal, no_inverse}
 use Rattle.field.specs.Inverse.{Inverse}
-use Rattle.field.specs.declared.Field.{Field}
 use Rattle.field.specs.declared.Refusal.{Refusal}
 use Rattle.field.specs.Calls.{inverse_says, MakeOutcome, ResidueOutcome, InvertOutcome}
 use Rattle.field.proofs.Outcome.{same_outcome}
 use Rattle.field.proofs.Unique.{invert_unique}
-use Rattle.engine.specs.declared.BasisResult.{BasisResult}
 use Rattle.engine.specs.Answers.{basis_says}
 use Rattle.engine.specs.Basis.{BasisOutcome}
 use Rattle.engine.specs.Approximant.{ApproximantOutcome}
@@ -25,7 +23,6 @@ use Rattle.sets.proofs.Unique.{bases_unique}
 use Rattle.pade.specs.Answer.{pair_says}
 use Rattle.pade.specs.Pair.{PairOutcome}
 use Rattle.pade.proofs.Unique.{pair_unique}
-use Rattle.sizes.specs.declared.JobSizes.{JobSizes}
 use Rattle.jobfile.specs.Answers.{job_says, write_says}
 use Rattle.jobfile.specs.Outcomes.{ReadOutcome, WriteOutcome}
 use Rattle.jobfile.proofs.Theorems.{read_unique, write_unique}
@@ -149,4 +146,4 @@ refused_one k before = text_one_of _ (refusal_text k) before
 pub print_one : (file before : List ℕ) → One (λ after. PrintOutcome file before after)
 unfolding PrintOutcome
 print_one file before after after' said said' h h' =
-    text_one_of _ h.0 before after after' said said' h.2 (rw (printed_unique file h'.0 h.0 h'.1 h.1) h'.2)
+    text_one_of _ h.0 before after after' said said' h.2 (rw (printed_unique file h.0 h'.0 h.1 h'.1) h'.2)
