@@ -30,7 +30,7 @@ pub fn solve(problem: Problem<'_>, out: &mut [u32]) -> Solved
 {
     let tops = step::reduced_basis(problem, out);
     Solved {
-        least: step::least_row([1; 8], tops, problem.d, problem.n).unwrap(),
+        least: step::least_row([1; 8], tops, problem.d).unwrap(),
         count: pivot_sum(&tops[..problem.n]),
     }
 }

@@ -32,9 +32,17 @@ pub struct Problem<'a> {
     pub ghost full: { length series.now ≡ n * s },
 }
 
+// What clears the other rows by row i: the coefficients of all rows, and h, minus the inverse of row i's.
+#[derive(Clone, Copy)]
+struct Clearing {
+    c: [u32; 8],
+    h: u32,
+    i: usize,
+}
+
 // The nearer of two rows: a lower shifted degree, and on a tie the row that was there.
-fn nearer(best: Option<usize>, l: usize, tops: [Degree; 8], d: &[u32], n: usize) -> usize
-    requires { (n ≤ 8) × (l < n) × IfSome best (λ k. k < n) × TypeWords n d.now × TopsWithin n 255 tops }
+fn nearer(best: Option<usize>, l: usize, tops: [Degree; 8], d: &[u32]) -> usize
+    requires { (length d.now ≤ 8) × (l < length d.now) × IfSome best (λ k. k < length d.now) × TypeWords (length d.now) d.now × TopsWithin (length d.now) 255 tops }
     ensures { Nearer (λ k. degree_at tops k + offset_of d.now k) best l result }
 {
     let Some(best) = best else {
@@ -46,14 +54,14 @@ fn nearer(best: Option<usize>, l: usize, tops: [Degree; 8], d: &[u32], n: usize)
 }
 
 // The row of least shifted degree, then of least type, among those whose flag is not 0.
-pub fn least_row(flags: [u32; 8], tops: [Degree; 8], d: &[u32], n: usize) -> Option<usize>
-    requires { (n ≤ 8) × TypeWords n d.now × TopsWithin n 255 tops }
-    ensures { LeastAmong n (λ l. get_or flags l 0) (row_weight n d.now tops) result }
+pub fn least_row(flags: [u32; 8], tops: [Degree; 8], d: &[u32]) -> Option<usize>
+    requires { (length d.now ≤ 8) × TypeWords (length d.now) d.now × TopsWithin (length d.now) 255 tops }
+    ensures { LeastAmong (length d.now) (λ l. get_or flags l 0) (row_weight (length d.now) d.now tops) result }
 {
     let mut best = None;
-    for l in 0..n {
-        if flags[l] != 0 {
-            best = Some(nearer(best, l, tops, d, n));
+    for (l, flag) in flags[..d.len()].iter().enumerate() {
+        if *flag != 0 {
+            best = Some(nearer(best, l, tops, d));
         }
     }
     best
@@ -75,28 +83,20 @@ fn coefficients(f: Field, basis: &[u32], series: &[u32], shape: &Shape, at: usiz
 }
 
 // Every row but i has its coefficient cleared by a multiple of the pivot row; row i stays.
-fn clear_rows(
-    f: Field,
-    basis: &mut [u32],
-    pivot: &[u32],
-    c: [u32; 8],
-    h: u32,
-    i: usize,
-    shape: &Shape,
-)
-    requires sizes { (i < shape.now.n) × (shape.now.width ≤ 256) × (length basis.old ≡ shape.now.n * (shape.now.n * shape.now.width)) × (length pivot.now ≡ shape.now.n * shape.now.width) }
+fn clear_rows(f: Field, basis: &mut [u32], pivot: &[u32], by: &Clearing, shape: &Shape)
+    requires sizes { (by.now.i < shape.now.n) × (shape.now.width ≤ 256) × (length basis.old ≡ shape.now.n * (shape.now.n * shape.now.width)) × (length pivot.now ≡ shape.now.n * shape.now.width) }
     requires tops_below { TopsBelow shape.now.n shape.now.width shape.now.tops }
     requires residues { (l : ℕ) → l < shape.now.n → Residues f.modulus (row_of shape.now.n shape.now.width basis.old l) }
     requires pivot_ends { RowEndsAt shape.now.n (vector shape.now.width pivot.now) (degree_at shape.now.tops) }
     ensures { (length basis.new ≡ length basis.old)
-        × ((l : ℕ) → l < shape.now.n → l ≢ i → row_of shape.now.n shape.now.width basis.new l
-        ≡ add_multiple f.modulus (factor f.modulus h (λ k. get_or c k 0) l) (vector shape.now.width pivot.now) (row_of shape.now.n shape.now.width basis.old l))
-        × (row_of shape.now.n shape.now.width basis.new i ≡ row_of shape.now.n shape.now.width basis.old i) }
+        × ((l : ℕ) → l < shape.now.n → l ≢ by.now.i → row_of shape.now.n shape.now.width basis.new l
+        ≡ add_multiple f.modulus (factor f.modulus by.now.h (λ k. get_or by.now.c k 0) l) (vector shape.now.width pivot.now) (row_of shape.now.n shape.now.width basis.old l))
+        × (row_of shape.now.n shape.now.width basis.new by.now.i ≡ row_of shape.now.n shape.now.width basis.old by.now.i) }
 {
     let size = shape.n * shape.width;
     for l in 0..shape.n {
-        if l != i {
-            let m = f.plus_product(0, c[l], h);
+        if l != by.i {
+            let m = f.plus_product(0, by.c[l], by.h);
             shape.add_row_multiple(f, &mut basis[l * size..l * size + size], pivot, m);
         }
     }
@@ -128,44 +128,40 @@ fn move_by(
     basis: &mut [u32],
     pivot: &[u32],
     moved: &mut [u32],
-    c: [u32; 8],
-    h: u32,
-    i: usize,
+    by: &Clearing,
     shape: &Shape,
 )
-    requires sizes { (i < shape.now.n) × (shape.now.width ≤ 256) × (length basis.old ≡ shape.now.n * (shape.now.n * shape.now.width)) × (length pivot.now ≡ shape.now.n * shape.now.width) × (length moved.old ≡ shape.now.n * shape.now.width) }
+    requires sizes { (by.now.i < shape.now.n) × (shape.now.width ≤ 256) × (length basis.old ≡ shape.now.n * (shape.now.n * shape.now.width)) × (length pivot.now ≡ shape.now.n * shape.now.width) × (length moved.old ≡ shape.now.n * shape.now.width) }
     requires tops_below { (k : ℕ) → k < shape.now.n → degree_at shape.now.tops k + 1 < shape.now.width }
     requires shape { BasisShape f.modulus shape.now.n (row_of shape.now.n shape.now.width basis.old) (degree_at shape.now.tops) }
-    requires pivot { vector shape.now.width pivot.now ≡ row_of shape.now.n shape.now.width basis.old i }
+    requires pivot { vector shape.now.width pivot.now ≡ row_of shape.now.n shape.now.width basis.old by.now.i }
     ensures { (length basis.new ≡ length basis.old)
-        × Moved f.modulus shape.now.n (factor f.modulus h (λ k. get_or c k 0)) (degree_at shape.now.tops) i (row_of shape.now.n shape.now.width basis.old) (row_of shape.now.n shape.now.width basis.new) }
+        × Moved f.modulus shape.now.n (factor f.modulus by.now.h (λ k. get_or by.now.c k 0)) (degree_at shape.now.tops) by.now.i (row_of shape.now.n shape.now.width basis.old) (row_of shape.now.n shape.now.width basis.new) }
 {
-    clear_rows(f, basis, pivot, c, h, i, shape);
+    clear_rows(f, basis, pivot, by, shape);
     shape.row_times_x(pivot, moved);
-    clear_columns(f, moved, basis, i, shape);
+    clear_columns(f, moved, basis, by.i, shape);
     let size = shape.n * shape.width;
-    basis[i * size..i * size + size].copy_from_slice(moved);
+    basis[by.i * size..by.i * size + size].copy_from_slice(moved);
 }
 
-// The same, where both are working rows. h is minus the inverse of row i's coefficient.
+// The same, where both are working rows.
 fn move_row(
     f: Field,
     basis: &mut [u32],
     pivot: &mut [u32],
     moved: &mut [u32],
-    c: [u32; 8],
-    h: u32,
-    i: usize,
+    by: &Clearing,
     shape: &Shape,
 )
-    requires sizes { (i < shape.now.n) × (shape.now.width ≤ 256) × (length basis.old ≡ shape.now.n * (shape.now.n * shape.now.width)) × (length pivot.old ≡ shape.now.n * shape.now.width) × (length moved.old ≡ shape.now.n * shape.now.width) }
+    requires sizes { (by.now.i < shape.now.n) × (shape.now.width ≤ 256) × (length basis.old ≡ shape.now.n * (shape.now.n * shape.now.width)) × (length pivot.old ≡ shape.now.n * shape.now.width) × (length moved.old ≡ shape.now.n * shape.now.width) }
     requires tops_below { (k : ℕ) → k < shape.now.n → degree_at shape.now.tops k + 1 < shape.now.width }
     requires shape { BasisShape f.modulus shape.now.n (row_of shape.now.n shape.now.width basis.old) (degree_at shape.now.tops) }
     ensures { (length basis.new ≡ length basis.old)
-        × Moved f.modulus shape.now.n (factor f.modulus h (λ k. get_or c k 0)) (degree_at shape.now.tops) i (row_of shape.now.n shape.now.width basis.old) (row_of shape.now.n shape.now.width basis.new) }
+        × Moved f.modulus shape.now.n (factor f.modulus by.now.h (λ k. get_or by.now.c k 0)) (degree_at shape.now.tops) by.now.i (row_of shape.now.n shape.now.width basis.old) (row_of shape.now.n shape.now.width basis.new) }
 {
-    pivot.copy_from_slice(words::part_at(basis, i, shape.n * shape.width));
-    move_by(f, basis, pivot, moved, c, h, i, shape);
+    pivot.copy_from_slice(words::part_at(basis, by.i, shape.n * shape.width));
+    move_by(f, basis, pivot, moved, by, shape);
 }
 
 // One order more: the reduced minimal basis of V_(at+1) from that of V_at, with its pivot degrees, in place. pivot and moved are working rows.
@@ -190,9 +186,9 @@ fn step(
         tops: *tops,
     };
     let c = coefficients(f, basis, problem.series, &shape, at);
-    if let Some(i) = least_row(c, *tops, problem.d, problem.n) {
-        let g = f.inverse(c[i]);
-        move_row(f, basis, pivot, moved, c, f.modulus - g, i, &shape);
+    if let Some(i) = least_row(c, *tops, problem.d) {
+        let h = f.modulus - f.inverse(c[i]);
+        move_row(f, basis, pivot, moved, &Clearing { c, h, i }, &shape);
         tops[i] = Degree(tops[i].0 + 1);
     }
 }

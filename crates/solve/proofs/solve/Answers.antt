@@ -14,10 +14,10 @@ within : (c : After-reduced_basis-tops) (l : ℕ) → l < c.args.problem.n → d
 within c = tops_within c.args.problem.prime c.args.problem.short c.reduced_basis-tops.ensures.1
 
 pub least_row-requires : goal.least_row-requires
-least_row-requires c = (c.args.problem.few, c.args.problem.types, within (goal.at.least_row-requires c).After-reduced_basis-tops)
+least_row-requires c = rw c.args.problem.types.count (c.args.problem.few, c.args.problem.types, within (goal.at.least_row-requires c).After-reduced_basis-tops)
 
 pub unwrap-requires : goal.unwrap-requires
-unwrap-requires c = one_is_least _ _ _ _ c.least_row.ensures (λ l hl. one_each l (omega (arith, c.args.problem.few))) (omega arith)
+unwrap-requires c = one_is_least _ _ _ _ (rw c.args.problem.types.count at c.least_row.ensures) (λ l hl. one_each l (omega (arith, c.args.problem.few))) (omega arith)
 
 pub pivot_sum-requires : goal.pivot_sum-requires
 pivot_sum-requires c =
@@ -30,6 +30,6 @@ returns c =
     let problem = c.args.problem in
     let tops = c.reduced_basis-tops.result in
     let basis = c.reduced_basis-tops.ensures in
-    let least = least_of_all _ _ _ _ _ c.least_row.ensures c.unwrap.ensures (λ l hl. one_each l (omega (arith, problem.few))) in
+    let least = least_of_all _ _ _ _ _ (rw problem.types.count at c.least_row.ensures) c.unwrap.ensures (λ l hl. one_each l (omega (arith, problem.few))) in
     let count : c.pivot_sum.result ≡ sum_to problem.n (degree_at tops) = c.pivot_sum.ensures ∙ sum_of_tops problem.n tops (omega (arith, problem.few)) in
     rw count (found_of problem.prime (type_offset problem.types) basis.1 (basis.0 ∙ c.requires.1) least.0 least.1)

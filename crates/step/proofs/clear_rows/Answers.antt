@@ -9,7 +9,7 @@ use Rattle.words.proofs.Part.{part_fits, lent_length, lent}
 use Rattle.words.proofs.Written.{parts_turn, parts_skip}
 use Rattle.step.specs.Factor.{factor}
 use Rattle.step.proofs.clear_rows.Goals as goal
-use Rattle.step.proofs.clear_rows.Goals.{then-l-i, else-l-i}
+use Rattle.step.proofs.clear_rows.Goals.{then-l-by, else-l-by}
 
 pub add_row_multiple-requires : goal.add_row_multiple-requires
 unfolding row
@@ -29,16 +29,16 @@ loop-l-preserved c =
     let l = c.loop-l in
     let size = shape.n * shape.width in
     let fits = part_fits shape.n size l.l (omega arith) in
-    elim c.if-l-i.branch [
-      | then-l-i w ↦ rw w.basis-is (parts_turn size _ _ l.basis w.add_row_multiple.new.row l.l (omega arith)
+    elim c.if-l-by.branch [
+      | then-l-by w ↦ rw w.basis-is (parts_turn size _ _ l.basis w.add_row_multiple.new.row l.l (omega arith)
           (w.add_row_multiple.ensures.0 ∙ lent_length size l.l l.basis (omega arith))
-          (λ ne. w.add_row_multiple.ensures.1 ∙ rw (lent size l.l l.basis, l.invariant.left l.l (omega arith), w.plus_product-m.ensures), λ q. absurd (w.if-l-i.true q))
+          (λ ne. w.add_row_multiple.ensures.1 ∙ rw (lent size l.l l.basis, l.invariant.left l.l (omega arith), w.plus_product-m.ensures), λ q. absurd (w.if-l-by.true q))
           l.invariant)
-      | else-l-i w ↦ rw w.basis-is (parts_skip size _ _ l.basis l.l (λ ne. absurd (ne w.if-l-i.false), λ q. refl) l.invariant)
+      | else-l-by w ↦ rw w.basis-is (parts_skip size _ _ l.basis l.l (λ ne. absurd (ne w.if-l-by.false), λ q. refl) l.invariant)
     ]
 
 pub returns : goal.returns
 unfolding row
 returns c =
     let l = c.loop-l in
-    (l.invariant.same, λ k h ne. (l.invariant.done k (omega arith)).0 ne, (l.invariant.done c.args.i (omega arith)).1 refl)
+    (l.invariant.same, λ k h ne. (l.invariant.done k (omega arith)).0 ne, (l.invariant.done c.args.by.now.i (omega arith)).1 refl)

@@ -14,8 +14,8 @@ copied_length : (c : After-part_at)
 copied_length c =
     let shape = c.args.shape.now in
     let size = shape.n * shape.width in
-    let fits = part_fits shape.n size c.args.i (omega arith) in
-    ap length c.part_at.ensures ∙ part_length size c.args.i c.args.basis.now (omega arith)
+    let fits = part_fits shape.n size c.args.by.now.i (omega arith) in
+    ap length c.part_at.ensures ∙ part_length size c.args.by.now.i c.args.basis.now (omega arith)
 
 pub copy_from_slice-requires : goal.copy_from_slice-requires
 copy_from_slice-requires c = omega (arith, copied_length (goal.at.copy_from_slice-requires c).After-part_at)

@@ -24,7 +24,7 @@ coefficient c = rw one_more at c.coefficients-c.ensures.0
 first : (c : In-Some)
     → let problem = c.args.problem in
     FirstRow problem.n (λ l. get_or c.coefficients-c.result l 0) (row_weight problem.n problem.d.now c.args.tops.now) c.in-Some.i
-first c = rw c.in-Some.is at c.least_row.ensures
+first c = rw (c.in-Some.is, c.args.problem.types.count) at c.least_row.ensures
 
 pub coefficients-c-requires : goal.coefficients-c-requires
 coefficients-c-requires c =
@@ -34,7 +34,7 @@ coefficients-c-requires c =
 pub least_row-requires : goal.least_row-requires
 least_row-requires c =
     let problem = c.args.problem in
-    (problem.few, problem.types, λ l h. omega (arith, pivot_le problem.prime c.requires.reduced.basis l h))
+    rw problem.types.count (problem.few, problem.types, λ l h. omega (arith, pivot_le problem.prime c.requires.reduced.basis l h))
 
 pub move_row-requires-clause-tops_below : goal.move_row-requires-clause-tops_below
 move_row-requires-clause-tops_below c k h = omega (arith, pivot_le c.args.problem.prime c.requires.reduced.basis k h)
@@ -53,7 +53,7 @@ returns-in-Some c =
     let tops = c.args.tops.now in
     let inside = first (goal.at.returns-in-Some c).In-Some in (
       moved.0,
-      next_moved c.args.problem.prime c.requires.reduced _ (coefficient (goal.at.returns-in-Some c).After-coefficients-c) _ _ _ _ inside c.inverse-g.ensures moved.1
+      next_moved c.args.problem.prime c.requires.reduced _ (coefficient (goal.at.returns-in-Some c).After-coefficients-c) _ _ _ _ inside c.inverse.ensures moved.1
           (raised tops _ _ (omega (arith, inside.row<, c.args.problem.few)) refl)
           (λ l h ne. kept tops _ l (record { 0 = degree_at tops i + 1 }) ne),
       λ l h. kept tops _ l (record { 0 = degree_at tops i + 1 }) (omega (arith, inside.row<)),
@@ -61,5 +61,5 @@ returns-in-Some c =
 
 pub returns-in_default : goal.returns-in_default
 returns-in_default c =
-    let same = next_same c.args.problem.prime c.requires.reduced _ (coefficient (goal.at.returns-in_default c).After-coefficients-c) (rw c.in_default.is at c.least_row.ensures) in
+    let same = next_same c.args.problem.prime c.requires.reduced _ (coefficient (goal.at.returns-in_default c).After-coefficients-c) (rw (c.in_default.is, c.args.problem.types.count) at c.least_row.ensures) in
     (refl, same, λ l h. refl)
