@@ -55,7 +55,7 @@ fn times_x(entry: &[u32], into: &mut [u32])
     into[1..].copy_from_slice(&entry[..entry.len() - 1]);
 }
 
-// What a row is like: n entries of so many words, each of which ends at its pivot degree.
+// What a row is like: n entries of so many words, each of which ends at its pivot degree. tops has eight places, as memory is fixed.
 #[derive(Clone, Copy)]
 pub struct Shape {
     pub n: usize,

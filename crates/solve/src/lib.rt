@@ -3,7 +3,6 @@
 
 ghost use Rattle.std.specs.Prelude.{◌≡◌, ◌^◌, ◌<◌, ◌≤◌, length, sum_by};
 ghost use Rattle.sizes.specs.Lengths.{basis_length};
-ghost use Rattle.degree.specs.declared.Degree.{Degree as DegreeOf};
 ghost use Rattle.solve.specs.Found.{BasisFound};
 
 use degree::Degree;
@@ -17,8 +16,8 @@ pub struct Solved {
 }
 
 fn pivot_sum(tops: &[Degree]) -> usize
-    requires { sum_by (λ (t : DegreeOf). t.0) tops.now < 2 ^ 64 }
-    ensures { result ≡ sum_by (λ (t : DegreeOf). t.0) tops.now }
+    requires { sum_by (λ (t : Degree). t.0) tops.now < 2 ^ 64 }
+    ensures { result ≡ sum_by (λ (t : Degree). t.0) tops.now }
 {
     tops.iter().map(|t| t.0).sum()
 }

@@ -75,6 +75,7 @@ fn coefficients(f: Field, basis: &[u32], series: &[u32], shape: &Shape, at: usiz
         × ((l : ℕ) → shape.now.n ≤ l → get_or result l 0 ≡ 0) }
 {
     let size = shape.n * shape.width;
+    // A place for each of at most eight rows, as memory is fixed.
     let mut c = [0u32; 8];
     for l in 0..shape.n {
         c[l] = shape.row_product(f, words::part_at(basis, l, size), series, at);
@@ -84,7 +85,7 @@ fn coefficients(f: Field, basis: &[u32], series: &[u32], shape: &Shape, at: usiz
 
 // Every row but i has its coefficient cleared by a multiple of the pivot row; row i stays.
 fn clear_rows(f: Field, basis: &mut [u32], pivot: &[u32], by: &Clearing, shape: &Shape)
-    requires sizes { (by.now.i < shape.now.n) × (shape.now.width ≤ 256) × (length basis.old ≡ shape.now.n * (shape.now.n * shape.now.width)) × (length pivot.now ≡ shape.now.n * shape.now.width) }
+    requires sizes { (by.now.i < shape.now.n) × (length basis.old ≡ shape.now.n * (shape.now.n * shape.now.width)) × (length pivot.now ≡ shape.now.n * shape.now.width) }
     requires tops_below { TopsBelow shape.now.n shape.now.width shape.now.tops }
     requires residues { (l : ℕ) → l < shape.now.n → Residues f.modulus (row_of shape.now.n shape.now.width basis.old l) }
     requires pivot_ends { RowEndsAt shape.now.n (vector shape.now.width pivot.now) (degree_at shape.now.tops) }
@@ -104,7 +105,7 @@ fn clear_rows(f: Field, basis: &mut [u32], pivot: &[u32], by: &Clearing, shape: 
 
 // Every column but i of X times the pivot row is cleared by a multiple of the row of that type.
 fn clear_columns(f: Field, moved: &mut [u32], basis: &[u32], i: usize, shape: &Shape)
-    requires sizes { (shape.now.width ≤ 256) × (length basis.now ≡ shape.now.n * (shape.now.n * shape.now.width)) × (length moved.old ≡ shape.now.n * shape.now.width) }
+    requires sizes { (length basis.now ≡ shape.now.n * (shape.now.n * shape.now.width)) × (length moved.old ≡ shape.now.n * shape.now.width) }
     requires tops_below { TopsBelow shape.now.n shape.now.width shape.now.tops }
     requires residues { Residues f.modulus (vector shape.now.width moved.old) }
     requires rows_end { (l : ℕ) → l < shape.now.n → l ≢ i → RowEndsAt shape.now.n (row_of shape.now.n shape.now.width basis.now l) (degree_at shape.now.tops) }
@@ -131,7 +132,7 @@ fn move_by(
     by: &Clearing,
     shape: &Shape,
 )
-    requires sizes { (by.now.i < shape.now.n) × (shape.now.width ≤ 256) × (length basis.old ≡ shape.now.n * (shape.now.n * shape.now.width)) × (length pivot.now ≡ shape.now.n * shape.now.width) × (length moved.old ≡ shape.now.n * shape.now.width) }
+    requires sizes { (by.now.i < shape.now.n) × (length basis.old ≡ shape.now.n * (shape.now.n * shape.now.width)) × (length pivot.now ≡ shape.now.n * shape.now.width) × (length moved.old ≡ shape.now.n * shape.now.width) }
     requires tops_below { (k : ℕ) → k < shape.now.n → degree_at shape.now.tops k + 1 < shape.now.width }
     requires shape { BasisShape f.modulus shape.now.n (row_of shape.now.n shape.now.width basis.old) (degree_at shape.now.tops) }
     requires pivot { vector shape.now.width pivot.now ≡ row_of shape.now.n shape.now.width basis.old by.now.i }
@@ -154,7 +155,7 @@ fn move_row(
     by: &Clearing,
     shape: &Shape,
 )
-    requires sizes { (by.now.i < shape.now.n) × (shape.now.width ≤ 256) × (length basis.old ≡ shape.now.n * (shape.now.n * shape.now.width)) × (length pivot.old ≡ shape.now.n * shape.now.width) × (length moved.old ≡ shape.now.n * shape.now.width) }
+    requires sizes { (by.now.i < shape.now.n) × (length basis.old ≡ shape.now.n * (shape.now.n * shape.now.width)) × (length pivot.old ≡ shape.now.n * shape.now.width) × (length moved.old ≡ shape.now.n * shape.now.width) }
     requires tops_below { (k : ℕ) → k < shape.now.n → degree_at shape.now.tops k + 1 < shape.now.width }
     requires shape { BasisShape f.modulus shape.now.n (row_of shape.now.n shape.now.width basis.old) (degree_at shape.now.tops) }
     ensures { (length basis.new ≡ length basis.old)
@@ -212,6 +213,7 @@ pub fn reduced_basis(problem: Problem<'_>, out: &mut [u32]) -> [Degree; 8]
         × TopsEndAt problem.entry.n result }
 {
     let size = problem.n * (problem.s + 1);
+    // The largest rows there can be, as memory is fixed.
     let mut pivot = [0u32; 2048];
     let mut moved = [0u32; 2048];
     let mut tops = [Degree(0); 8];

@@ -28,7 +28,7 @@ add_row_multiple-requires c =
     let size = shape.n * shape.width in
     let fits = part_fits shape.n size l.k (omega arith) in
     let other = c.if-k-i.true in
-    record { sizes = (l.invariant.0 ∙ c.requires.sizes.2, ap length c.part_at.ensures ∙ part_length size l.k c.args.basis.now (omega arith)); tops_below = c.requires.tops_below; residues = λ k t. rw l.invariant.1 (add_multiples_below _ _ _ _ _ (omega arith) k t); row_ends = λ k h t g. rw c.part_at.ensures (c.requires.rows_end l.k (omega arith) other k h t g) }
+    record { sizes = (l.invariant.0 ∙ c.requires.sizes.1, ap length c.part_at.ensures ∙ part_length size l.k c.args.basis.now (omega arith)); tops_below = c.requires.tops_below; residues = λ k t. rw l.invariant.1 (add_multiples_below _ _ _ _ _ (omega arith) k t); row_ends = λ k h t g. rw c.part_at.ensures (c.requires.rows_end l.k (omega arith) other k h t g) }
 
 pub loop-k-preserved : goal.loop-k-preserved
 unfolding row

@@ -20,7 +20,7 @@ add_row_multiple-requires c =
     let fits = part_fits shape.n size l.l (omega arith) in
     let same : take (l.l * size + size - l.l * size) (drop (l.l * size) l.basis) ≡ part size l.l c.args.basis.now =
     lent size l.l l.basis ∙ l.invariant.left l.l (omega arith) in
-    record { sizes = (lent_length size l.l l.basis (omega arith), c.requires.sizes.3); tops_below = c.requires.tops_below; residues = λ k t. rw same (c.requires.residues l.l (omega arith) k t); row_ends = c.requires.pivot_ends }
+    record { sizes = (lent_length size l.l l.basis (omega arith), c.requires.sizes.2); tops_below = c.requires.tops_below; residues = λ k t. rw same (c.requires.residues l.l (omega arith) k t); row_ends = c.requires.pivot_ends }
 
 pub loop-l-preserved : goal.loop-l-preserved
 unfolding row factor

@@ -24,4 +24,4 @@ pub move_by-requires : goal.move_by-requires
 unfolding row_of
 move_by-requires c =
     let copied = c.copy_from_slice.ensures.after in
-    record { sizes = (omega arith, omega arith, c.requires.sizes.2, ap length copied ∙ copied_length (goal.at.move_by-requires c).After-part_at, c.requires.sizes.4); tops_below = c.requires.tops_below; shape = c.requires.shape; pivot = rw (copied, c.part_at.ensures) }
+    record { sizes = (omega arith, c.requires.sizes.1, ap length copied ∙ copied_length (goal.at.move_by-requires c).After-part_at, c.requires.sizes.3); tops_below = c.requires.tops_below; shape = c.requires.shape; pivot = rw (copied, c.part_at.ensures) }
