@@ -187,7 +187,8 @@ pub fn read_payload(file: &[u8], from: usize, out: &mut [u32])
     }
 }
 
-// Whether some of count words of a file's payload, from word `from` on, is at least the bound.
+// Whether some of count words of a file's payload, from word `from` on, is at least the bound. Beside words::any_from, since these words
+// lie in bytes: one function over both would be no plainer.
 pub fn any_payload_from(file: &[u8], from: usize, count: usize, bound: u32) -> bool
     requires { from + count ≤ 125 * blocks_in file.now }
     ensures { (result ≡ true) ↔ Some (λ x. bound ≤ x) (payload_part file.now from count) }

@@ -16,7 +16,8 @@ use sizes::JobSizes;
 // Every text fits: 11 bytes for each number, at 8 rows of 8 entries of 256 words.
 pub const TEXT: usize = 180_809;
 
-// Appends texts to a lent buffer: the next byte goes to position `at`.
+// Appends texts to a lent buffer: the next byte goes to position `at`. Not `Display`, of whose `fmt` no clause says what it writes: each byte
+// is promised here.
 #[derive(Drop)]
 pub struct Writer<'a> {
     pub out: &'a mut [u8],
@@ -193,7 +194,7 @@ fn test_basis(n: u32, s: u32, types: usize, words: usize, bytes: usize) -> Resul
     Ok(())
 }
 
-// The text of a basis: p, n, s, the type, the basis words and the least row's number, from 1.
+// The text of a basis: p, n, s, the type, the basis words and the least row's number, from 1, one by one as the exported call hands them on.
 pub fn write_basis(
     p: u32,
     n: u32,

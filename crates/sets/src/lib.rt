@@ -160,6 +160,7 @@ impl Sets<'_> {
     }
 }
 
+// The parameters stand one by one, as the exported call hands them on.
 pub fn bases(
     p: u32,
     n: u32,
