@@ -162,12 +162,12 @@ pub fn parse(text: &[u8], types: &mut [u32; 8], series: &mut [u32; 2040]) -> Res
     let p = reader.modulus()?;
     let n = reader.count()?;
     let s = reader.below(256, Slip::Order)?;
-    // The type and the series are kept apart until the text is known to be right.
-    let entries = n as usize;
+    // The type and the series are kept apart until the text is known to be right, in arrays of the largest size, since there is no heap.
     let mut d = [0u32; 8];
+    let mut f = [0u32; 2040];
+    let entries = n as usize;
     reader.numbers(256, Slip::Entry, &mut d[..entries])?;
     let coefficients = entries * s as usize;
-    let mut f = [0u32; 2040];
     reader.numbers(p, Slip::Coefficient, &mut f[..coefficients])?;
     reader.end()?;
     types[..entries].copy_from_slice(&d[..entries]);

@@ -24,9 +24,6 @@ few c =
     let a = (job c).admitted in
     (a.n_to, a.s_to, series_small _ _ a.n_to a.s_to)
 
-pub overflow_mul-coefficients : goal.overflow_mul-coefficients
-overflow_mul-coefficients c = omega (arith, few (goal.at.overflow_mul-coefficients c).In-Ok)
-
 pub slice_bounds-d-end : goal.slice_bounds-d-end
 slice_bounds-d-end c =
     omega (arith, (job (goal.at.slice_bounds-d-end c).In-Ok).admitted.type_length, length-take c.in-Ok.sizes.n c.parse.new.types)

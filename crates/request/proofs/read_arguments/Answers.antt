@@ -8,9 +8,6 @@ use Rattle.request.proofs.read_arguments.Goals as goal
 pub loop-word-init : goal.loop-word-init
 loop-word-init c = arguing_none _ _ _
 
-pub take_word-requires : goal.take_word-requires
-take_word-requires c = c.loop-word.invariant.here
-
 pub returns-then-count-ends : goal.returns-then-count-ends
 returns-then-count-ends c =
     let taken = took_word _ _ c.in-Ok.is c.take_word.ensures in
