@@ -35,6 +35,7 @@ pub struct Fault {
     pub line: usize,
 }
 
+// As in crate request, whose slips are others: each error has a `From` of its own.
 impl From<NumeralError> for Slip {
     ghost from_gives = { λ e slip. slip ≡ slip_of e };
 
@@ -175,7 +176,7 @@ pub fn parse(text: &[u8], types: &mut [u32; 8], series: &mut [u32; 2040]) -> Res
     Ok(JobSizes { p, n, s })
 }
 
-// Which moduli are admitted.
+// The words of a message, put and not displayed, since each byte is promised. Which moduli are admitted.
 #[tactic(auto, unfolding(crate::specs::Message::moduli_words))]
 fn put_moduli(text: &mut Writer<'_>)
     requires { RoomFor moduli_words text.old }

@@ -171,6 +171,7 @@ pub fn read_arguments(text: &[u8], values: &mut [u32], ends: &mut [usize]) -> Re
     let mut here = Position { at: 0, line: 1 };
     let mut used = 0;
     let mut count = 0;
+    // No `for`: the words come until the text ends, each from where the one before it ended.
     while let Ok(word) = tokens::take_word(text, here) {
         if count >= ends.len() {
             return Err(Slip::TooMany);
