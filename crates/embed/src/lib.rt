@@ -1,7 +1,7 @@
 // The engine for programs that are not written in Rattle: one function for each public call, on numbers and lent slices.
 // Each answers a status word, 0 or the refusal's number, and writes the values of a result to a lent answer slice. None has a premise.
 // Crate embed_c exports them to C.
-#![tactic(auto)]
+#![tactic(auto, using(crate::proofs::Given::other_length))]
 
 ghost use Rattle.std.specs.Prelude.{◌≡◌, List, [], ◌∷◌, ℕ, ◌^◌, ◌<◌, length, IfOk};
 ghost use Rattle.field.specs.Calls.{MakeOutcome, AddOutcome, MultiplyOutcome, InvertOutcome};
@@ -46,7 +46,7 @@ trait Words {
     ghost words: { Self → List ℕ };
 
     // Whether each number is a word.
-    ghost Fits: { Self → Type 0 };
+    ghost Fits: { Self → Type 0 } = { λ _. Unit };
 
     fn write(self, answer: &mut [u32])
         requires fits { Fits self }
@@ -58,11 +58,9 @@ trait Words {
 impl Words for u32 {
     const ANSWER_LENGTH: usize = 1;
 
-    ghost ANSWER_LENGTH = { 1 };
+    ghost ANSWER_LENGTH = { residue_answer_length };
 
     ghost words = { λ x. x ∷ [] };
-
-    ghost Fits = { λ _. Unit };
 
     fn write(self, answer: &mut [u32]) {
         answer.copy_from_slice(&[self]);
@@ -73,7 +71,7 @@ impl Words for u32 {
 impl Words for usize {
     const ANSWER_LENGTH: usize = 1;
 
-    ghost ANSWER_LENGTH = { 1 };
+    ghost ANSWER_LENGTH = { count_answer_length };
 
     ghost words = { λ x. x ∷ [] };
 
@@ -88,11 +86,9 @@ impl Words for usize {
 impl Words for BasisResult {
     const ANSWER_LENGTH: usize = 2;
 
-    ghost ANSWER_LENGTH = { 2 };
+    ghost ANSWER_LENGTH = { basis_answer_length };
 
     ghost words = { λ found. found.least ∷ found.count ∷ [] };
-
-    ghost Fits = { λ _. Unit };
 
     fn write(self, answer: &mut [u32]) {
         answer.copy_from_slice(&[self.least, self.count]);
@@ -102,11 +98,9 @@ impl Words for BasisResult {
 impl Words for JobSizes {
     const ANSWER_LENGTH: usize = 3;
 
-    ghost ANSWER_LENGTH = { 3 };
+    ghost ANSWER_LENGTH = { job_answer_length };
 
     ghost words = { λ job. job.p ∷ job.n ∷ job.s ∷ [] };
-
-    ghost Fits = { λ _. Unit };
 
     fn write(self, answer: &mut [u32]) {
         answer.copy_from_slice(&[self.p, self.n, self.s]);

@@ -1,15 +1,12 @@
--- An answer slice of another length gives 4; else the wrapped call's outcome is told.
+-- On an answer slice of the stated length the wrapped call's outcome is told.
 use mathlib.Core.Path.{refl, sym, ◌∙◌}
 use mathlib.Core.List.{[], ◌∷◌}
 use Rattle.field.specs.Answer.{no_inverse}
 use Rattle.field.specs.Number.{number_of}
 use Rattle.embed.specs.Says.{says}
-use Rattle.embed.proofs.Given.{other_length, given}
+use Rattle.embed.proofs.Given.{given}
 use Rattle.embed.proofs.Inverse.{inverse_some, inverse_none}
 use Rattle.embed.proofs.relations_invert.Goals as goal
-
-pub returns-then-answer-ne-ANSWER_LENGTH : goal.returns-then-answer-ne-ANSWER_LENGTH
-returns-then-answer-ne-ANSWER_LENGTH c = other_length _ _ _ _ c.if-answer-ne-ANSWER_LENGTH.true tt
 
 pub returns-in-Some : goal.returns-in-Some
 returns-in-Some c =

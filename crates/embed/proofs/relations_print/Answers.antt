@@ -1,13 +1,10 @@
--- An answer slice of another length gives 4; else the wrapped call's outcome is told.
+-- On an answer slice of the stated length the wrapped call's outcome is told.
 use mathlib.Core.Path.{refl}
 use borrow.Author.Rules.{rules}
 use Rattle.report.specs.Calls.{text_says}
-use Rattle.embed.proofs.Given.{other_length, given_result}
+use Rattle.embed.proofs.Given.{given_result}
 use Rattle.embed.proofs.Text.{print_text_fits}
 use Rattle.embed.proofs.relations_print.Goals as goal
-
-pub returns-then-answer-ne-ANSWER_LENGTH : goal.returns-then-answer-ne-ANSWER_LENGTH
-returns-then-answer-ne-ANSWER_LENGTH c = other_length _ _ _ _ c.if-answer-ne-ANSWER_LENGTH.true refl
 
 pub tell-requires-clause-fits : goal.tell-requires-clause-fits
 tell-requires-clause-fits c = print_text_fits _ _ _ c.print_job.result (search rules) c.print_job.ensures

@@ -3,12 +3,9 @@ use mathlib.Core.Path.{refl, ap}
 use Prim.Native.Nat.{ℕ, ◌*◌}
 use native.Mathlib.Omega.{arith}
 use lib.ListN.{length}
-use Rattle.embed.proofs.Given.{other_length, given}
+use Rattle.embed.proofs.Given.{given}
 use Rattle.embed.proofs.RowAt.{view_small, row_said}
 use Rattle.embed.proofs.relations_row.Goals as goal
-
-pub returns-then-answer-ne-ROW_ANSWER_LENGTH : goal.returns-then-answer-ne-ROW_ANSWER_LENGTH
-returns-then-answer-ne-ROW_ANSWER_LENGTH c = other_length _ _ _ _ c.if-answer-ne-ROW_ANSWER_LENGTH.true tt
 
 pub overflow_mul-start : goal.overflow_mul-start
 overflow_mul-start c = rw c.saturating_sub.ensures (omega (arith, (view_small c.row_view-count.ensures).1))
