@@ -2,7 +2,7 @@
 use crate::arguments::{Kind, Request};
 use crate::fault::{Fault, Stop};
 use crate::lend::{FILE, JOB_TEXT, TEXT, WORDS, lend};
-use crate::say::{Answer, with_bytes};
+use crate::say::{Answer, with_bytes, with_words};
 use field::Field;
 
 // Which call it is comes before what is wrong with a word.
@@ -75,8 +75,7 @@ fn basis(out: &impl Print, request: Request, values: &mut [u32]) -> Result<(), S
     let mut told = [9; 2];
     let (d, series) = (given.slice(0), given.slice(1));
     let status = embed::relations_basis(p, n, s, d, series, words, &mut told);
-    let answer = Answer(status, &told);
-    println!(out; "{answer}{}", given.form.say(words))?;
+    with_words(out, Answer(status, &told), words, given.form)?;
     Ok(())
 }
 
@@ -88,8 +87,7 @@ fn approximant(out: &impl Print, request: Request, values: &mut [u32]) -> Result
     let mut told = [9; 2];
     let (d, series) = (given.slice(0), given.slice(1));
     let status = embed::relations_approximant(p, n, d, series, words, &mut told);
-    let answer = Answer(status, &told);
-    println!(out; "{answer}{}", given.form.say(words))?;
+    with_words(out, Answer(status, &told), words, given.form)?;
     Ok(())
 }
 
@@ -127,9 +125,8 @@ fn row(out: &impl Print, request: Request, values: &mut [u32]) -> Result<(), Sto
     let basis = given.slice(0);
     let mut told = [9; 2];
     let status = embed::relations_row(n, s, i, basis, &mut told);
-    let answer = Answer(status, &told);
     let words = engine::row_view(basis, n, s, i);
-    println!(out; "{answer}{}", given.form.say(words))?;
+    with_words(out, Answer(status, &told), words, given.form)?;
     Ok(())
 }
 

@@ -61,9 +61,13 @@ impl fmt::Display for Buffer<'_> {
     }
 }
 
+// The line of a call that writes to one buffer, or shows a part of one.
+pub fn with_words(out: &impl Print, answer: Answer, words: &[u32], form: Form) -> io::Result<()> {
+    println!(out; "{answer}{}", form.say(words))
+}
+
 // The line of a call that writes bytes. They are said as words are.
 pub fn with_bytes(out: &impl Print, answer: Answer, bytes: &[u8], form: Form) -> io::Result<()> {
     let mut wide = [9u32; TEXT];
-    let words = lend(bytes, &mut wide);
-    println!(out; "{answer}{}", form.say(words))
+    with_words(out, answer, lend(bytes, &mut wide), form)
 }
