@@ -234,7 +234,12 @@ pub fn relations_bases(
 ) -> u32
     ensures { Told (λ said. BasesOutcome p n s sets d.now series.now bases.old answers.old said bases.new answers.new) result }
 {
-    status(sets::bases(p, n, s, sets, d, series, bases, answers))
+    let job = Job {
+        sizes: JobSizes { p, n, s },
+        d,
+        series,
+    };
+    status(sets::bases(job, sets, bases, answers))
 }
 
 pub fn relations_approximant(
@@ -318,7 +323,8 @@ pub fn relations_text(
     if answer.len() != usize::ANSWER_LENGTH {
         return OTHER_LENGTH;
     }
-    tell(report::write_basis(p, n, s, d, basis, least, text), answer)
+    let sizes = JobSizes { p, n, s };
+    tell(report::write_basis(sizes, d, basis, least, text), answer)
 }
 
 pub fn relations_refused(number: u32, text: &mut [u8], answer: &mut [u32]) -> u32

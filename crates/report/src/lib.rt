@@ -194,21 +194,19 @@ fn test_basis(n: u32, s: u32, types: usize, words: usize, bytes: usize) -> Resul
     Ok(())
 }
 
-// The text of a basis: p, n, s, the type, the basis words and the least row's number, from 1, one by one as the exported call hands them on.
+// The text of a basis: p, n and s, the type, the basis words and the least row's number, from 1.
 pub fn write_basis(
-    p: u32,
-    n: u32,
-    s: u32,
+    sizes: JobSizes,
     d: &[u32],
     basis: &[u32],
     least: u32,
     out: &mut [u8],
 ) -> Result<usize, Refusal>
-    ensures { BasisTextOutcome p n s d.now basis.now least out.old out.new (text_says result) }
+    ensures { BasisTextOutcome sizes.p sizes.n sizes.s d.now basis.now least out.old out.new (text_says result) }
 {
-    test_basis(n, s, d.len(), basis.len(), out.len())?;
+    test_basis(sizes.n, sizes.s, d.len(), basis.len(), out.len())?;
     let mut text = Writer { out, at: 0 };
-    text.put_basis(JobSizes { p, n, s }, d, basis, least);
+    text.put_basis(sizes, d, basis, least);
     Ok(text.at)
 }
 

@@ -16,32 +16,26 @@ ghost use Rattle.sets.specs.Bases.{BasesAnswered, BasesOutcome};
 
 use engine::BasisResult;
 use field::{Field, Refusal};
-use sizes::JobSizes;
+use sizes::Job;
 use step::Problem;
 
 // The words of a set's answer.
 const ANSWER_LENGTH: usize = 3;
 
 // Lengths are multiplied only once n, s and the number of sets are known to be small.
-fn test_lent(
-    n: usize,
-    s: usize,
-    sets: usize,
-    d: &[u32],
-    series: usize,
-    bases: usize,
-    answers: usize,
-) -> Result<(), Refusal>
-    requires { (n ≤ 8) × (s ≤ 255) }
-    ensures { Tests (lent_order n s sets d.now series bases answers) result }
+fn test_lent(job: Job<'_>, sets: usize, bases: usize, answers: usize) -> Result<(), Refusal>
+    requires { (job.sizes.n ≤ 8) × (job.sizes.s ≤ 255) }
+    ensures { Tests (lent_order job.entry.sizes.n job.entry.sizes.s sets job.entry.d.now (length job.entry.series.now) bases answers) result }
 {
+    let n = job.sizes.n as usize;
+    let s = job.sizes.s as usize;
     if sets > 16 {
         return Err(Refusal::Sets);
     }
-    if d.len() != n {
+    if job.d.len() != n {
         return Err(Refusal::Length);
     }
-    if series != sets * (n * s) {
+    if job.series.len() != sets * (n * s) {
         return Err(Refusal::Length);
     }
     if bases != sets * (n * (n * (s + 1))) {
@@ -50,34 +44,17 @@ fn test_lent(
     if answers != sets * ANSWER_LENGTH {
         return Err(Refusal::Length);
     }
-    if sizes::any_entry_outside(d) {
+    if sizes::any_entry_outside(job.d) {
         return Err(Refusal::Entry);
     }
     Ok(())
 }
 
-fn test_bases(
-    p: u32,
-    n: u32,
-    s: u32,
-    sets: u32,
-    d: &[u32],
-    series: usize,
-    bases: usize,
-    answers: usize,
-) -> Result<(), Refusal>
-    ensures { Tests (bases_order p n s sets d.now series bases answers) result }
+fn test_bases(job: Job<'_>, sets: u32, bases: usize, answers: usize) -> Result<(), Refusal>
+    ensures { Tests (bases_order job.entry.sizes.p job.entry.sizes.n job.entry.sizes.s sets job.entry.d.now (length job.entry.series.now) bases answers) result }
 {
-    sizes::test_sizes(JobSizes { p, n, s })?;
-    test_lent(
-        n as usize,
-        s as usize,
-        sets as usize,
-        d,
-        series,
-        bases,
-        answers,
-    )
+    sizes::test_sizes(job.sizes)?;
+    test_lent(job, sets as usize, bases, answers)
 }
 
 fn write_answer(answer: Result<BasisResult, Refusal>, words: &mut [u32])
@@ -85,16 +62,8 @@ fn write_answer(answer: Result<BasisResult, Refusal>, words: &mut [u32])
     ensures { words.new ≡ answer_words answer }
 {
     match answer {
-        Ok(found) => {
-            words[0] = 0;
-            words[1] = found.least;
-            words[2] = found.count;
-        }
-        Err(e) => {
-            words[0] = e.number();
-            words[1] = 0;
-            words[2] = 0;
-        }
+        Ok(found) => words.copy_from_slice(&[0, found.least, found.count]),
+        Err(e) => words.copy_from_slice(&[e.number(), 0, 0]),
     }
 }
 
@@ -160,27 +129,20 @@ impl Sets<'_> {
     }
 }
 
-// The parameters stand one by one, as the exported call hands them on.
-pub fn bases(
-    p: u32,
-    n: u32,
-    s: u32,
-    sets: u32,
-    d: &[u32],
-    series: &[u32],
-    bases: &mut [u32],
-    answers: &mut [u32],
-) -> Result<(), Refusal>
-    ensures { BasesOutcome p n s sets d.now series.now bases.old answers.old (bases_says result) bases.new answers.new }
+// The sets' series lie end to end in the job's.
+pub fn bases(job: Job<'_>, sets: u32, bases: &mut [u32], answers: &mut [u32]) -> Result<(), Refusal>
+    ensures { BasesOutcome job.entry.sizes.p job.entry.sizes.n job.entry.sizes.s sets job.entry.d.now job.entry.series.now bases.old answers.old (bases_says result) bases.new answers.new }
 {
-    test_bases(p, n, s, sets, d, series.len(), bases.len(), answers.len())?;
+    test_bases(job, sets, bases.len(), answers.len())?;
     let sets = Sets {
-        field: Field { modulus: p },
-        n: n as usize,
-        s: s as usize,
+        field: Field {
+            modulus: job.sizes.p,
+        },
+        n: job.sizes.n as usize,
+        s: job.sizes.s as usize,
         count: sets as usize,
-        d,
-        series,
+        d: job.d,
+        series: job.series,
     };
     sets.answer_sets(bases, answers);
     Ok(())
