@@ -62,7 +62,8 @@ impl Kind {
     }
 }
 
-// The words behind a call's name, and how buffers are said.
+// The words behind a call's name, and how buffers are said. The place for their numbers is lent beside it: the borrow checker does not cover a struct
+// that holds a `&mut` and is passed on.
 #[derive(Clone, Copy)]
 pub struct Request<'a> {
     pub text: &'a [u8],

@@ -1,4 +1,4 @@
-// The calls, one function each: what is lent, the call, and what it left.
+// The calls, one function each: what is lent, the call, and what it left. What is lent are arrays, since the program has no heap.
 use crate::arguments::{Kind, Request};
 use crate::fault::{Fault, Stop};
 use crate::lend::{FILE, JOB_TEXT, TEXT, WORDS, lend};
