@@ -323,8 +323,7 @@ pub fn relations_text(
     if answer.len() != usize::ANSWER_LENGTH {
         return OTHER_LENGTH;
     }
-    let sizes = JobSizes { p, n, s };
-    tell(report::write_basis(sizes, d, basis, least, text), answer)
+    tell(report::write_basis(p, n, s, d, basis, least, text), answer)
 }
 
 pub fn relations_refused(number: u32, text: &mut [u8], answer: &mut [u32]) -> u32

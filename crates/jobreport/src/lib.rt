@@ -17,7 +17,8 @@ fn print_basis(job: Job<'_>, basis: &mut [u32], out: &mut [u8]) -> Result<usize,
     ensures { JobPrintOutcome (lent_job job.entry) out.old out.new (text_says result) }
 {
     let found = engine::basis(job, basis).unwrap();
-    report::write_basis(job.sizes, job.d, basis, found.least, out)
+    let sizes = job.sizes;
+    report::write_basis(sizes.p, sizes.n, sizes.s, job.d, basis, found.least, out)
 }
 
 pub fn print_job(file: &[u8], out: &mut [u8]) -> Result<usize, Refusal>

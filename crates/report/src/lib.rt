@@ -194,19 +194,22 @@ fn test_basis(n: u32, s: u32, types: usize, words: usize, bytes: usize) -> Resul
     Ok(())
 }
 
-// The text of a basis: p, n and s, the type, the basis words and the least row's number, from 1.
+// The text of a basis: p, n, s, the type, the basis words and the least row's number, from 1. Tried over a JobSizes: of a word in a struct
+// that is only handed on the proof does not know that it fits 32 bits.
 pub fn write_basis(
-    sizes: JobSizes,
+    p: u32,
+    n: u32,
+    s: u32,
     d: &[u32],
     basis: &[u32],
     least: u32,
     out: &mut [u8],
 ) -> Result<usize, Refusal>
-    ensures { BasisTextOutcome sizes.p sizes.n sizes.s d.now basis.now least out.old out.new (text_says result) }
+    ensures { BasisTextOutcome p n s d.now basis.now least out.old out.new (text_says result) }
 {
-    test_basis(sizes.n, sizes.s, d.len(), basis.len(), out.len())?;
+    test_basis(n, s, d.len(), basis.len(), out.len())?;
     let mut text = Writer { out, at: 0 };
-    text.put_basis(sizes, d, basis, least);
+    text.put_basis(JobSizes { p, n, s }, d, basis, least);
     Ok(text.at)
 }
 

@@ -21,11 +21,11 @@ room p n s d basis i out hp hi wd wb b = record {
 passes : (c : In_ok-test_basis) →
     let a = c.args in
     Words a.d.now → Words a.basis.now
-    → Passed a.sizes.n a.sizes.s (length a.d.now) (length a.basis.now) (length a.out.now) × Room (basis_text a.sizes.p a.sizes.n a.sizes.s a.d.now a.basis.now a.least) a.out.now 0
+    → Passed a.n a.s (length a.d.now) (length a.basis.now) (length a.out.now) × Room (basis_text a.p a.n a.s a.d.now a.basis.now a.least) a.out.now 0
 passes c typed filled =
     let a = c.args in
     let b = basis_passed _ _ _ _ _ (passed _ _ c.in_ok-test_basis.ensures) in
-    (b, room a.sizes.p a.sizes.n a.sizes.s a.d.now a.basis.now a.least a.out.now c.ranges.sizes.p.fits c.ranges.least.fits typed filled b)
+    (b, room a.p a.n a.s a.d.now a.basis.now a.least a.out.now c.ranges.p.fits c.ranges.least.fits typed filled b)
 
 pub put_basis-requires : goal.put_basis-requires
 put_basis-requires c =
