@@ -158,6 +158,7 @@ pub fn basis(job: Job<'_>, out: &mut [u32]) -> Result<BasisResult, Refusal>
     Ok(answered(problem, out))
 }
 
+// No Job: its order is σ of the type, which is not known before the type is tested.
 pub fn approximant(
     p: u32,
     n: u32,
