@@ -1,5 +1,12 @@
 -- Faults of blocks in turn: how a scan finds the first, and that there is none exactly where each block has its number and is sound.
-use Rattle.std.proofs.Common.{◌≡◌, ℕ, zero, suc, ◌+◌, ◌-◌, ◌*◌, ◌<◌, ◌≤◌, ◌≢◌, List, Result, Ok, Err, take, drop, ◌∙◌, add-zero, arith, drop-drop}
+use Rattle.std.proofs.Common.{◌≡◌, ℕ, zero, suc, ◌+◌, ◌-◌, ◌*◌, ◌<◌, ◌≢◌, List, ◌++◌, Option, Some, None, Result, Ok, Err, length, take, drop, ap, ◌∙◌, add-zero, arith}
+use lib.ListN.{length-append}
+use lib.Seq.{take_at, drop_at}
+use Rattle.std.specs.Borrow.{Bor}
+use Rattle.std.specs.declared.slice.ChunksExact.{ChunksExact}
+use Rattle.std.specs.declared.iter.Enumerate.{Enumerate}
+use Rattle.std.specs.Slice.Iter.{chunks_exact_rest, chunks_exact_size, chunks_exact_steps}
+use Rattle.std.specs.Iterator.Adapters.{enumerate_source, enumerate_count, enumerate_steps}
 use Rattle.field.specs.declared.Refusal.{Refusal}
 use Rattle.field.specs.Refusal.{Order, NoTest}
 use Rattle.field.specs.Calls.{Tests}
@@ -24,34 +31,66 @@ module _ (b m : ℕ) (l : List ℕ) where
   unfolding faults
   passed n s t r = later _ _ t (exact n) (later _ _ t (λ e. e s) r)
 
--- the faults of count blocks from block b on
-abbrev pub faults_from : ℕ → ℕ → List ℕ → ℕ → Order
-faults_from first count l b = faults (first + b) (count - b) (drop (512 * b) l)
+abbrev pub Source : Type 0
+Source = Enumerate (ChunksExact ℕ)
 
--- the same for block b of a scan, lent as the x bytes from its first on
-module _ (first count : ℕ) (l : List ℕ) (b x : ℕ) (h : b < count) (is : x ≡ 512) where
-  left : count - b ≡ suc (count - (b + 1))
-  left = omega arith
+abbrev rest_of : Source → List ℕ
+rest_of s = chunks_exact_rest (enumerate_source s)
 
-  pub number_wrong_at : number_of (take x (drop (512 * b) l)) ≢ first + b → Tests (faults_from first count l b) (Err Refusal.BlockNumber)
-  number_wrong_at n = rw left (number_wrong (first + b) (count - (b + 1)) (drop (512 * b) l) (rw is at n))
+abbrev source_steps : Source → Option (ℕ × Bor (List ℕ)) → Source → Type 0
+source_steps = enumerate_steps chunks_exact_steps
 
-  pub checks_wrong_at : number_of (take x (drop (512 * b) l)) ≡ first + b → ¬ Sound (take x (drop (512 * b) l))
-      → Tests (faults_from first count l b) (Err Refusal.Check)
-  checks_wrong_at n s = rw left (checks_wrong (first + b) (count - (b + 1)) (drop (512 * b) l) (rw is at n) (rw is at s))
+-- of count blocks, those that `chunks_exact` and `enumerate` have not given yet
+pub record Scan (count : ℕ) (s : Source) : Type 0 where
+  pub size : chunks_exact_size (enumerate_source s) ≡ 512
+  pub long : length (rest_of s) ≡ 512 * (count - enumerate_count s)
 
-  pub passed_at : number_of (take x (drop (512 * b) l)) ≡ first + b → Sound (take x (drop (512 * b) l)) → (t : Result Unit Refusal)
-      → Tests (faults_from first count l (b + 1)) t → Tests (faults_from first count l b) t
-  passed_at n s t r =
-      let i : 512 * b + 512 ≡ 512 * (b + 1) = omega arith in
-      let d : drop 512 (drop (512 * b) l) ≡ drop (512 * (b + 1)) l = drop-drop 512 (512 * b) l ∙ rw i in
-      let f : first + (b + 1) ≡ suc (first + b) = omega arith in
-      rw left (passed (first + b) (count - (b + 1)) (drop (512 * b) l) (rw is at n) (rw is at s) t (rw (d, ← f) r))
+-- their faults
+abbrev pub faults_left : ℕ → ℕ → Source → Order
+faults_left first count s = faults (first + enumerate_count s) (count - enumerate_count s) (rest_of s)
 
--- none is left after the last
-pub none_left : (first count : ℕ) (l : List ℕ) (b : ℕ) → count ≤ b → Tests (faults_from first count l b) (Ok tt)
+module _ (first count : ℕ) (s t : Source) (c : Scan count s) (i : ℕ) (block : Bor (List ℕ)) (step : source_steps s (Some (i, block)) t) where
+  long : length block.now ≡ 512
+  long = step.0.1.1 ∙ c.size
+
+  cut : rest_of s ≡ block.now ++ rest_of t
+  cut = step.0.1.0
+
+  this : take 512 (rest_of s) ≡ block.now
+  this = ap (take 512) cut ∙ take_at block.now (rest_of t) 512 long
+
+  others : drop 512 (rest_of s) ≡ rest_of t
+  others = ap (drop 512) cut ∙ drop_at block.now (rest_of t) 512 long
+
+  left : count - enumerate_count s ≡ suc (count - (enumerate_count s + 1))
+  left = omega (arith, c.long, ap length cut, length-append block.now (rest_of t), long)
+
+  pub scan_next : Scan count t
+  scan_next = record {
+    size = step.0.0 ∙ c.size;
+    long = omega (arith, c.long, ap length cut, length-append block.now (rest_of t), long, step.2);
+  }
+
+  pub number_wrong_at : number_of block.now ≢ first + i → Tests (faults_left first count s) (Err Refusal.BlockNumber)
+  number_wrong_at n = rw left (number_wrong (first + enumerate_count s) (count - (enumerate_count s + 1)) (rest_of s) (rw (this, ← step.1) n))
+
+  pub checks_wrong_at : number_of block.now ≡ first + i → ¬ Sound block.now → Tests (faults_left first count s) (Err Refusal.Check)
+  checks_wrong_at n h =
+      rw left (checks_wrong (first + enumerate_count s) (count - (enumerate_count s + 1)) (rest_of s) (rw (this, ← step.1) n) (rw this h))
+
+  pub passed_at : number_of block.now ≡ first + i → Sound block.now → (r : Result Unit Refusal) → Tests (faults_left first count t) r
+      → Tests (faults_left first count s) r
+  passed_at n h r u =
+      let f : first + (enumerate_count s + 1) ≡ suc (first + enumerate_count s) = omega arith in
+      rw left (passed (first + enumerate_count s) (count - (enumerate_count s + 1)) (rest_of s) (rw (this, ← step.1) n) (rw this h) r
+      (rw (others, ← f, ← step.2) u))
+
+-- none is left where no block comes
+pub none_left : (first count : ℕ) (s t : Source) → Scan count s → source_steps s None t → Tests (faults_left first count s) (Ok tt)
 unfolding faults
-none_left first count l b h = let e : count - b ≡ 0 = omega arith in rw e (no_more tt)
+none_left first count s t c step =
+    let e : count - enumerate_count s ≡ 0 = omega (arith, c.long, c.size, step.0.1.0) in
+    rw e (no_more tt)
 
 sound_stable : (l : List ℕ) → ¬ (¬ Sound l) → Sound l
 sound_stable l h = record {

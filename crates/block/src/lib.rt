@@ -5,7 +5,7 @@
 // and is listed in docs/PREMISES.md.
 #![tactic(auto)]
 
-ghost use Rattle.std.specs.Prelude.{◌≡◌, ◌+◌, ◌*◌, ◌/◌, ◌≤◌, true, ◌↔◌, length, slice_index};
+ghost use Rattle.std.specs.Prelude.{◌≡◌, ◌+◌, ◌*◌, ◌/◌, ◌≤◌, true, ◌↔◌, length};
 ghost use Rattle.block.specs.Word.{word_at};
 ghost use Rattle.block.specs.Store.{stored};
 ghost use Rattle.block.specs.Checks.{added, summed, checks_of};
@@ -203,17 +203,14 @@ pub fn is_bad_length(file: usize, largest: usize) -> bool
     file == 0 || file % 512 != 0 || file > largest
 }
 
-// Tests count blocks in turn, which should be numbered from first.
+// Tests count blocks in turn, which should be numbered from first. Count is the clauses': the loop takes each block that the file has.
 pub fn test_blocks(file: &[u8], first: u32, count: usize) -> Result<(), Refusal>
     requires file_length { length file.now ≡ 512 * count }
     requires numbers { first + count ≤ 4294967296 }
     ensures { Tests (faults first count file.now) result }
 {
-    for b in 0..count {
-        let at = 512 * b;
-        let block = LentBlock {
-            bytes: &file[at..at + 512],
-        };
+    for (b, bytes) in file.chunks_exact(512).enumerate() {
+        let block = LentBlock { bytes };
         if block.number() != first + b as u32 {
             return Err(Refusal::BlockNumber);
         }
