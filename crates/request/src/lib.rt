@@ -1,7 +1,7 @@
 // A request: a line with the name of a call and its arguments, each a list of numbers (docs/FORMATS.md). What reads it is here.
 #![tactic(auto)]
 
-ghost use Rattle.std.specs.Prelude.{◌≡◌, true, ◌↔◌, ◌-◌, ◌<◌, ◌≤◌, ◌==◌, Ok, length, get_or, take, drop, position};
+ghost use Rattle.std.specs.Prelude.{◌≡◌, true, ◌↔◌, ◌<◌, ◌==◌, Ok, length, get_or, position};
 ghost use Rattle.words.specs.Lent.{over};
 ghost use Rattle.tokens.specs.Number.{numeral_of};
 ghost use Rattle.request.specs.Drawn.{start, next, drawn, prime47};
@@ -41,7 +41,7 @@ pub enum Piece {
     Drawn { seed: u32, modulus: u32, count: u32 },
 }
 
-// The numbers of a request, and where each of its arguments ends among them.
+// The numbers of a request, and where each of its arguments ends among them. They stand side by side, since no heap is used.
 #[derive(Clone, Copy)]
 pub struct Arguments<'a> {
     pub values: &'a [u32],
@@ -196,12 +196,10 @@ impl<'a> Arguments<'a> {
         if self.ends.len() < numbers || self.ends.len() - numbers != slices {
             return false;
         }
-        for (i, end) in self.ends[..numbers].iter().enumerate() {
-            if *end != i + 1 {
-                return false;
-            }
-        }
-        true
+        self.ends[..numbers]
+            .iter()
+            .enumerate()
+            .all(|(i, end)| *end == i + 1)
     }
 
     // Place i of the ends, 0 past the last.
