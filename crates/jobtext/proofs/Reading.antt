@@ -10,7 +10,8 @@ use native.Mathlib.Omega.{arith}
 use borrow.Author.Tests.{lt-ltb, le-ltb, le-leb, lt-leb}
 use lib.ListN.{length, take, drop, set, replicate, length-set, length-replicate}
 use lib.Seq.{append_snoc, take-suc-set, take_all, take_at, length-take-le}
-use Rattle.std.specs.Prelude.{Ok, Err}
+use Rattle.std.specs.Prelude.{Result, Ok, Err, MatchResult}
+use Rattle.std.specs.Result.{IsErrAnd}
 use Rattle.sizes.proofs.Entry.{entry_test}
 use Rattle.tokens.specs.declared.NumeralError.{NumeralError}
 use Rattle.jobtext.specs.declared.Fault.{Fault}
@@ -47,13 +48,21 @@ pub takes_none : (t t' : Tokens) (l l' : ℕ) → t ≡ text_end l → Takes t (
 unfolding Takes
 takes_none t t' l l' e = λ ok slip go. one_none ok slip go l t e
 
-pub takes_is : {t t' : Tokens} {l v : ℕ} {w : List ℕ} → t ≡ word l w t' → Ok v ≡ numeral_of w → Takes t (Ok v) l t'
+takes_is : {t t' : Tokens} {l v : ℕ} {w : List ℕ} → t ≡ word l w t' → Ok v ≡ numeral_of w → Takes t (Ok v) l t'
 unfolding Takes
 takes_is e n = λ ok slip go. one_is ok slip go _ _ _ _ _ e n
 
-pub takes_not : {t t' : Tokens} {l : ℕ} (l' : ℕ) {w : List ℕ} {q : NumeralError} → t ≡ word l w t' → Err q ≡ numeral_of w → Takes t (Err (fault_at (slip_of q) l)) l' t'
+takes_not : {t t' : Tokens} {l : ℕ} (l' : ℕ) {w : List ℕ} {q : NumeralError} → t ≡ word l w t' → Err q ≡ numeral_of w → Takes t (Err (fault_at (slip_of q) l)) l' t'
 unfolding Takes
 takes_not l' e n = λ ok slip go. one_not ok slip go _ _ _ _ _ e n
+
+-- what `map_err` makes of the number's slip
+pub takes_read : {t t' : Tokens} {l : ℕ} {w : List ℕ} (x : Result ℕ NumeralError) (r : Result ℕ Fault) (Q : NumeralError → Fault → Type 0) → t ≡ word l w t' → x ≡ numeral_of w
+    → MatchResult x (λ v. r ≡ Ok v) (λ e. IsErrAnd r (Q e)) → ((e : NumeralError) (f : Fault) → Q e f → f ≡ fault_at (slip_of e) l) → Takes t r l t'
+unfolding Takes
+takes_read (Ok v) r Q e n h q = rw h (takes_is e n)
+takes_read (Err s) (Err f) Q e n h q = rw (q s f h) (takes_not 0 e n)
+takes_read (Err s) (Ok v) Q e n h q = absurd h
 
 -- and what testing it does
 module _ (ok : ℕ → Bool) (slip : Slip) (t t' : Tokens) where

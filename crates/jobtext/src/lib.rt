@@ -1,7 +1,7 @@
 // The text job: a plain text with the numbers of a job, for people.
 #![tactic(auto)]
 
-ghost use Rattle.std.specs.Prelude.{◌≡◌, ◌++◌, ◌≤◌, length, drop};
+ghost use Rattle.std.specs.Prelude.{◌≡◌, ◌++◌, length, drop};
 ghost use Rattle.report.specs.Appended.{RoomFor, Appended};
 ghost use Rattle.field.specs.ModulusTest.{is_modulus};
 ghost use Rattle.tokens.specs.Taking.{IsPosition};
@@ -89,10 +89,10 @@ impl Reader<'_> {
             at: word.to,
             line: word.line,
         };
-        match tokens::read_numeral(&self.text[word.from..word.to]) {
-            Ok(value) => Ok(value),
-            Err(e) => Err(self.fault(e.into())),
-        }
+        tokens::read_numeral(&self.text[word.from..word.to]).map_err(|e| Fault {
+            slip: e.into(),
+            line: word.line,
+        })
     }
 
     fn modulus(&mut self) -> Result<u32, Fault>

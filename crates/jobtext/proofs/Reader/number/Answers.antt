@@ -1,8 +1,9 @@
 -- `number` meets its contract: the next token is the word, and its number is taken.
 use native.Mathlib.Omega.{arith}
+use Rattle.std.proofs.Common.{rules}
 use Rattle.std.proofs.lemmas.Result.{err_from_is_err_and}
 use Rattle.tokens.proofs.Taking.{took_word, took_end}
-use Rattle.jobtext.proofs.Reading.{takes_none, takes_is, takes_not}
+use Rattle.jobtext.proofs.Reading.{takes_none, takes_read}
 use Rattle.jobtext.proofs.Reader.number.Goals as goal
 
 pub returns-in_err-word : goal.returns-in_err-word
@@ -19,12 +20,7 @@ slice_bounds-read_numeral-count c = let taken = took_word _ _ c.in_ok-word.was c
 pub slice_bounds-read_numeral-start : goal.slice_bounds-read_numeral-start
 slice_bounds-read_numeral-start c = slice_bounds-read_numeral-count c
 
-pub returns-in-Ok : goal.returns-in-Ok
-returns-in-Ok c =
+pub returns : goal.returns
+returns c =
     let taken = took_word _ _ c.in_ok-word.was c.take_word.ensures in
-    takes_is taken.3 c.in-Ok.ensures
-
-pub returns-in-Err : goal.returns-in-Err
-returns-in-Err c =
-    let taken = took_word _ _ c.in_ok-word.was c.take_word.ensures in
-    rw (c.fault.ensures, c.into.ensures) (takes_not _ taken.3 c.in-Err.ensures)
+    takes_read _ _ _ taken.3 c.read_numeral.ensures c.map_err.ensures.cases (λ e f q. search rules)
