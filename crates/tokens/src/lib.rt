@@ -1,7 +1,7 @@
 // The words of a text, each with its line, and a word read as a number: what the readers of texts share.
 #![tactic(auto)]
 
-ghost use Rattle.std.specs.Prelude.{◌≡◌, ℕ, ◌+◌, ◌-◌, ◌<◌, ◌≤◌, length, get_or, take, drop};
+ghost use Rattle.std.specs.Prelude.{◌≡◌, ℕ, ◌-◌, ◌<◌, ◌≤◌, length, get_or, take, drop};
 ghost use Rattle.tokens.specs.Tokens.{class_of, ends, scan, comment, word, rest};
 ghost use Rattle.tokens.specs.Number.{numeral_of, numeral_from};
 ghost use Rattle.tokens.specs.Taking.{IsPosition, TakesWord};
@@ -104,6 +104,7 @@ fn skip(text: &[u8], start: Position) -> Position
 }
 
 // What the bytes say after no digit yet. A number that is too large stays so, whatever digits follow.
+// Not std's `parse`: it takes a sign, and here a number too large with a letter behind it is no number.
 fn read_digits(word: &[u8]) -> Result<u32, NumeralError>
     ensures { result ≡ numeral_from 0 word.now }
 {
