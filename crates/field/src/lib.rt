@@ -32,7 +32,7 @@ struct Cofactors {
     k: u32,
 }
 
-// A factor of many products: c, and c * 2^32 / p.
+// A factor of many products: c, and c * 2^32 / p. That it is one, `Fixed p m`, is asked beside the field, since the type does not know the modulus.
 #[derive(Clone, Copy)]
 pub struct FixedFactor {
     pub factor: u32,
