@@ -30,11 +30,11 @@ use sizes::{Job, JobSizes};
 // The status of the inverse of zero, which has no number.
 const NO_INVERSE: u32 = 256;
 
-// The status of an answer slice of another length than stated. Each call tests the length in its own body: a helper that is handed the call
-// as a closure could not say, where it does not run it, that the lent buffers that the closure captures are as they were.
+// The status of an answer slice of another length than stated. Each call has that test in its own body, which is the plainer form:
+// of a closure that a helper does not run nothing says that the buffers that it captures stay as lent.
 const OTHER_LENGTH: u32 = 4;
 
-// The length of an answer slice for where a row starts and its length.
+// The length of an answer slice for where a row starts and its length, which have no type of their own.
 const ROW_ANSWER_LENGTH: usize = 2;
 
 // A result as the words of an answer slice.
