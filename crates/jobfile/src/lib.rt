@@ -128,7 +128,8 @@ fn gather(words: &mut [u32], job: Job<'_>)
     words[after..].copy_from_slice(job.series);
 }
 
-// Writes a job that passed its tests, and answers the number of blocks.
+// Writes a job that passed its tests, and answers the number of blocks. Here and in the crates above the fact is asked: the next call tests the
+// job again, so a type for it would be used once.
 fn write_tested(job: Job<'_>, out: &mut [u8]) -> u32
     requires { Admitted (lent_job job) × (length out.old ≡ file_bytes) }
     ensures { JobWritten (lent_job job.entry) out.old (write_says (Ok result)) out.new }

@@ -30,6 +30,7 @@ pub fn print_job(file: &[u8], out: &mut [u8]) -> Result<usize, Refusal>
         Ok(sizes) => {
             let n = sizes.n as usize;
             let s = sizes.s as usize;
+            // Fixed memory: the words of the largest basis.
             let mut basis = [0u32; 16384];
             let job = Job {
                 sizes,

@@ -1,4 +1,5 @@
-// Rows of polynomials as words: n entries of equal width, low coefficient first. Loops end at the pivot degrees.
+// Rows of polynomials as words: n entries of equal width, low coefficient first. Loops end at the pivot degrees. What is written is reached by
+// its place, here and in crate step: std says nothing of what a loop over mutable parts has left.
 #![tactic(auto)]
 
 ghost use Rattle.std.specs.Prelude.{◌≡◌, ℕ, min, ◌+◌, ◌*◌, ◌-◌, ◌%◌, ◌<◌, ◌≤◌, length};
@@ -55,7 +56,9 @@ fn times_x(entry: &[u32], into: &mut [u32])
     into[1..].copy_from_slice(&entry[..entry.len() - 1]);
 }
 
-// What a row is like: n entries of so many words, each of which ends at its pivot degree. tops has eight places, as memory is fixed.
+// What a row is like: n entries of so many words, each of which ends at its pivot degree. tops has eight places, as memory is fixed. That the
+// degrees lie below the width is asked where it is needed, since `row_product` takes any; so are the lengths of rows, since a struct that held
+// the row would lend its parts at each turn, which is no plainer.
 #[derive(Clone, Copy)]
 pub struct Shape {
     pub n: usize,

@@ -117,6 +117,7 @@ impl Sets<'_> {
         ensures { BasesAnswered self.now.field.modulus self.now.n self.now.s self.now.count self.now.d.now self.now.series.now bases.old bases.new answers.new }
     {
         let size = self.n * (self.n * (self.s + 1));
+        // By place: std says nothing of what a loop over mutable parts has left.
         for j in 0..self.count {
             let start = j * size;
             let from = j * ANSWER_LENGTH;

@@ -55,7 +55,8 @@ pub fn any_entry_outside(d: &[u32]) -> bool
     words::any_from(d, 256)
 }
 
-// 4 for type and series, 5, 6. Lengths are multiplied only once n and s are known to be small.
+// 4 for type and series, 5, 6. Lengths are multiplied only once n and s are known to be small. A type for small sizes would be made and taken
+// apart at each of its callers, which is no plainer.
 pub fn test_job(job: Job<'_>) -> Result<(), Refusal>
     requires { (job.sizes.n ≤ 8) × (job.sizes.s ≤ 255) }
     ensures { Tests (job_order job.entry.sizes.p job.entry.sizes.n job.entry.sizes.s job.entry.d.now job.entry.series.now) result }
