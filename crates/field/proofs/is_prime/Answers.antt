@@ -1,13 +1,9 @@
 -- A number is below 2, or a multiple of 2, 3 or 5 and then prime only as that number itself, or it is for rest_is_prime.
-use Rattle.std.proofs.Common.{refl, arith}
+use Rattle.std.proofs.Common.{refl}
 use Rattle.field.specs.ModulusTest.{is_modulus, none_divides}
-use Rattle.field.proofs.Truth.{refuted}
 use Rattle.field.proofs.Trial.{multiple_prime}
 use Rattle.field.proofs.ModulusTest.{modulus_test}
 use Rattle.field.proofs.is_prime.Goals as goal
-
-pub returns-then-n-lt2 : goal.returns-then-n-lt2
-returns-then-n-lt2 c = refuted (λ pr. omega (arith, pr.above_one))
 
 pub returns-then-n-eq0 : goal.returns-then-n-eq0
 unfolding is_modulus none_divides

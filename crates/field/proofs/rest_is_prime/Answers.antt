@@ -1,8 +1,7 @@
 -- No number below d divides n, the invariant Tried of proofs/Trial, and past the square root that makes n prime; the measure is what is left up to n.
 use Rattle.std.proofs.Common.{◌+◌, ◌*◌, ◌%◌, ◌≤◌, arith}
-use Rattle.field.proofs.Words.{sum_product}
 use Rattle.field.proofs.Truth.{shown, refuted}
-use Rattle.field.proofs.Trial.{step, Tried, composite, tried_none, step_less, tried_more, root_below, past_root}
+use Rattle.field.proofs.Trial.{step, Tried, composite, tried_more, root_below, past_root}
 use Rattle.field.proofs.rest_is_prime.Goals as goal
 use Rattle.field.proofs.rest_is_prime.Goals.{Else-n-d-eq0, In-loop-d}
 
@@ -15,22 +14,10 @@ after c =
     let pre = c.requires in
     tried_more _ _ _ c.loop-d.invariant (in_loop c.before) (pre.1, (pre.2, pre.3)) c.if-n-d-eq0.false
 
-pub loop-d-init : goal.loop-d-init
-loop-d-init c = tried_none c.args.n c.requires.0 (c.requires.1, (c.requires.2, c.requires.3))
-
-pub overflow_mul-d : goal.overflow_mul-d
-overflow_mul-d c = omega (arith, sum_product 32 32 0 c.loop-d.d c.loop-d.d (omega arith) (omega arith) (omega arith))
-
 pub returns-then-n-d-eq0 : goal.returns-then-n-d-eq0
 returns-then-n-d-eq0 c =
     let h = in_loop c.before in
     refuted (composite _ c.loop-d.d (omega arith) (omega arith) c.if-n-d-eq0.true)
-
-pub overflow_add-d : goal.overflow_add-d
-overflow_add-d c = omega (arith, (after c.before.before).at_most)
-
-pub loop-d-smaller : goal.loop-d-smaller
-loop-d-smaller c = step_less _ _ _ c.loop-d.invariant (in_loop c.before.before.before)
 
 pub loop-d-preserved : goal.loop-d-preserved
 loop-d-preserved c = after c.before.before

@@ -1,7 +1,6 @@
 -- What is left of the product is below 2p, and 2p fits 32 bits.
 use Rattle.std.proofs.Common.{◌+◌, ◌*◌, ◌/◌, ◌^◌, ◌<◌, ◌≤◌, refl, ◌∙◌, arith}
 use native.Mathlib.Nat.{add-sub_cancel_left}
-use Rattle.field.proofs.Words.{sum_product}
 use Rattle.field.proofs.Fixed.{low, high, left_over}
 use Rattle.field.proofs.Field.plus_multiple.Goals as goal
 use Rattle.field.proofs.Field.plus_multiple.Goals.{Start}
@@ -11,21 +10,6 @@ at_most c = low 32 c.args.self.modulus c.args.m.factor c.args.y c.args.m.quotien
 
 below : (c : Start) → c.args.m.factor * c.args.y < c.args.m.quotient * c.args.y / 2 ^ 32 * c.args.self.modulus + (c.args.self.modulus + c.args.self.modulus)
 below c = high 32 c.args.self.modulus c.args.m.factor c.args.y c.args.m.quotient _ (omega arith) (omega arith) c.requires.1.estimate refl
-
-pub overflow_mul-q : goal.overflow_mul-q
-overflow_mul-q c =
-    let args = c.args in
-    omega (arith, sum_product 32 32 0 args.m.quotient args.y (omega arith) (omega arith) (omega arith))
-
-pub overflow_mul-r : goal.overflow_mul-r
-overflow_mul-r c =
-    let args = c.args in
-    omega (arith, sum_product 32 32 0 args.m.factor args.y (omega arith) (omega arith) (omega arith))
-
-pub overflow_mul-r-2 : goal.overflow_mul-r-2
-overflow_mul-r-2 c =
-    let args = c.args in
-    omega (arith, at_most c.before.before.before, sum_product 32 32 0 args.m.factor args.y (omega arith) (omega arith) (omega arith))
 
 pub overflow_sub-r : goal.overflow_sub-r
 overflow_sub-r c = omega (arith, at_most c.before.before.before)
