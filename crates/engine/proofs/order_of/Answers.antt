@@ -1,10 +1,7 @@
 -- The sum of the entries, each with 1 added, is from 1 to 256 for each.
 use Rattle.std.proofs.Common.{◌∙◌, ap, length, ◌-◌, ℕ, arith}
-use Rattle.engine.proofs.Sigma.{all_words, at_least_one, word_sum_small, order_of_words}
+use Rattle.engine.proofs.Sigma.{all_words, word_sum_small, order_of_words}
 use Rattle.engine.proofs.order_of.Goals as goal
-
-pub overflow_sub-result : goal.overflow_sub-result
-overflow_sub-result c = let d = c.args.d.now in omega (arith, c.word_sum.ensures, all_words d, at_least_one (length d) d (omega arith))
 
 pub returns : goal.returns
 returns c =

@@ -3,18 +3,11 @@ use Rattle.std.proofs.Common.{Ok, Err, inl, inr, arith}
 use Rattle.field.specs.declared.Refusal.{Refusal}
 use Rattle.field.proofs.Truth.{fails, no_either, exact}
 use Rattle.field.proofs.Tests.{here, later, no_more}
-use Rattle.words.proofs.Sizes.{series_small, basis_small}
 use Rattle.engine.proofs.test_series.Goals as goal
 use Rattle.engine.proofs.test_series.Goals.{then-series-n-via-then-series-n, then-series-n-via-else-series-n+then-basis-n}
 
 pub returns-then-s-gt255 : goal.returns-then-s-gt255
 returns-then-s-gt255 c = here _ _ Refusal.Order (omega arith)
-
-pub overflow_mul-n : goal.overflow_mul-n
-overflow_mul-n c = let a = c.args in omega (arith, series_small a.n a.s (omega arith) (omega arith))
-
-pub overflow_mul-n-else-series-n-2 : goal.overflow_mul-n-else-series-n-2
-overflow_mul-n-else-series-n-2 c = let a = c.args in omega (arith, basis_small a.n a.s (omega arith) (omega arith))
 
 pub returns-then-series-n : goal.returns-then-series-n
 returns-then-series-n c =
