@@ -1,8 +1,8 @@
 -- Set after set: those that were passed are answered in their parts, and the parts of the others are as lent.
-use Rattle.std.proofs.Common.{refl, ◌∙◌, ℕ, ◌+◌, ◌*◌, ◌≤◌, length, arith}
+use Rattle.std.proofs.Common.{◌∙◌, ℕ, ◌+◌, ◌*◌, ◌≤◌, length, arith}
 use Rattle.words.specs.Part.{part}
 use Rattle.words.proofs.Part.{part_fits, part_length, lent, put_length}
-use Rattle.words.proofs.Written.{parts_none, parts_turn_two}
+use Rattle.words.proofs.Written.{parts_turn_two}
 use Rattle.sizes.specs.Lengths.{basis_length}
 use Rattle.sets.specs.Answer.{answer_length}
 use Rattle.sets.specs.Set.{SetAnswered}
@@ -21,9 +21,6 @@ in_bases c = omega (arith, in_part c (basis_length c.args.self.now.n c.args.self
 
 in_answers : (c : In-loop-j) → c.loop-j.j * answer_length + answer_length ≤ length c.loop-j.answers
 in_answers c = omega (arith, in_part c answer_length)
-
-pub loop-j-init : goal.loop-j-init
-loop-j-init c = (refl, parts_none _ _ _)
 
 pub overflow_add-start : goal.overflow_add-start
 overflow_add-start c = omega (arith, in_bases c)
@@ -47,12 +44,3 @@ loop-j-preserved c =
           (λ k part-k words-k. SetAnswered sets.field.modulus sets.n sets.s sets.d.now (part (sets.n * sets.s) k sets.series.now) (part size k c.args.bases.now) part-k words-k)
           c.args.bases.now l.bases left l.answers words l.j (in_bases place) full.0 (in_answers place) full.1 set l.invariant.1,
     )
-
-pub returns : goal.returns
-returns c =
-    let l = c.loop-j in
-    record {
-      bases_words = l.invariant.1.same ∙ c.requires.0;
-      answers_words = l.invariant.0 ∙ c.requires.1;
-      each = λ j h. l.invariant.1.done j (omega arith);
-    }
