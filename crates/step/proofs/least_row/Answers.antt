@@ -1,21 +1,12 @@
 -- `least_row` meets its contract: best is the least of the rows passed.
-use mathlib.Core.Path.{◌≡◌, sym, ◌∙◌}
+use mathlib.Core.Path.{sym, ◌∙◌}
 use Prim.Native.Nat.{◌<◌}
 use native.Mathlib.Omega.{arith}
 use lib.ListN.{length, length-take}
 use lib.Seq.{get_or-take}
-use Rattle.step.proofs.Search.{best_inside, best_skip, best_turn}
+use Rattle.step.proofs.Search.{best_skip, best_turn}
 use Rattle.step.proofs.least_row.Goals as goal
 use Rattle.step.proofs.least_row.Goals.{then-flag-ne0, else-flag-ne0}
-
-pub loop-l-init : goal.loop-l-init
-loop-l-init c k h = absurd (omega arith)
-
-pub nearer-requires : goal.nearer-requires
-nearer-requires c =
-    let l = c.loop-l in
-    let inside : l.l < length c.args.d.now = omega (arith, length-take (length c.args.d.now) c.args.flags) in
-    (omega arith, inside, best_inside _ _ _ _ l.l l.best (omega arith) l.invariant, c.requires.1, c.requires.2)
 
 pub loop-l-preserved : goal.loop-l-preserved
 loop-l-preserved c =
@@ -27,9 +18,3 @@ loop-l-preserved c =
       | then-flag-ne0 w ↦ rw w.best-is (best_turn _ _ _ _ l.l l.best _ inside (λ z. w.if-flag-ne0.true (same ∙ z)) w.nearer.ensures l.invariant)
       | else-flag-ne0 w ↦ rw w.best-is (best_skip _ _ _ _ l.l l.best (sym same ∙ w.if-flag-ne0.false) l.invariant)
     ]
-
-pub returns : goal.returns
-returns c =
-    let l = c.loop-l in
-    let e : l.l ≡ length c.args.d.now = omega (arith, length-take (length c.args.d.now) c.args.flags) in
-    rw e at l.invariant

@@ -14,15 +14,6 @@ loop-at-init c =
       ends = λ l h. no_degrees 8 l;
     }
 
-pub loop-at-preserved : goal.loop-at-preserved
-loop-at-preserved c =
-    let l = c.loop-at in
-    let after = c.step.ensures in record {
-      full = after.0 ∙ l.invariant.full;
-      reduced = after.1;
-      ends = λ k h. after.2 k h ∙ l.invariant.ends k h;
-    }
-
 pub returns : goal.returns
 returns c =
     let l = c.loop-at in

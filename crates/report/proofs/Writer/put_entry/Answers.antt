@@ -4,7 +4,6 @@ use mathlib.Core.List.{List, ◌++◌}
 use Prim.Native.Nat.{ℕ, ◌+◌}
 use native.Mathlib.Omega.{arith}
 use lib.ListN.{length, take}
-use lib.Seq.{length-take-le}
 use Rattle.report.specs.Each.{each}
 use Rattle.report.specs.Entry.{trim}
 use Rattle.report.specs.Text.{number, numbers, entry_text}
@@ -31,9 +30,6 @@ pub put_number-requires : goal.put_number-requires
 put_number-requires c =
     let h = rw (← zero_text _ c.in-None.ensures) at c.requires in
     search pieces
-
-pub slice_bounds-put_numbers-end : goal.slice_bounds-put_numbers-end
-slice_bounds-put_numbers-end c = sym (length-take-le _ _ (omega (arith, c.in-Some.ensures.0)))
 
 pub put_numbers-requires : goal.put_numbers-requires
 put_numbers-requires c =
