@@ -77,6 +77,7 @@ pub struct Given<'a, const N: usize> {
     pub form: Form,
     values: &'a [u32],
     ends: [usize; ARGUMENTS],
+    count: usize,
 }
 
 impl Request<'_> {
@@ -100,6 +101,7 @@ impl Request<'_> {
             form: self.form,
             values,
             ends,
+            count,
         };
         for (i, kind) in kinds.iter().enumerate() {
             kind.test(given.slice(i))?;
@@ -108,12 +110,12 @@ impl Request<'_> {
     }
 }
 
-impl<const N: usize> Given<'_, N> {
+impl<'a, const N: usize> Given<'a, N> {
     // The slice behind the numbers and so many others.
-    pub fn slice(&self, i: usize) -> &[u32] {
+    pub fn slice(&self, i: usize) -> &'a [u32] {
         let read = Arguments {
             values: self.values,
-            ends: &self.ends,
+            ends: &self.ends[..self.count.min(ARGUMENTS)],
         };
         read.argument(N.wrapping_add(i))
     }

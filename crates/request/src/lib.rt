@@ -41,11 +41,12 @@ pub enum Piece {
     Drawn { seed: u32, modulus: u32, count: u32 },
 }
 
-// The numbers of a request, and where each of its arguments ends among them. They stand side by side, since no heap is used.
+// The numbers of a request, and where each of its arguments ends among them. They stand side by side, since no heap is used. An argument is
+// lent as long as the numbers are, however long the ends are.
 #[derive(Clone, Copy)]
-pub struct Arguments<'a> {
-    pub values: &'a [u32],
-    pub ends: &'a [usize],
+pub struct Arguments<'v, 'e> {
+    pub values: &'v [u32],
+    pub ends: &'e [usize],
 }
 
 fn find(text: &[u8], b: u8) -> Option<usize>
@@ -188,7 +189,7 @@ pub fn read_arguments(text: &[u8], values: &mut [u32], ends: &mut [usize]) -> Re
     Ok(count)
 }
 
-impl<'a> Arguments<'a> {
+impl<'v> Arguments<'v, '_> {
     // Whether a call that takes so many numbers and so many slices takes these arguments.
     pub fn is_shape(&self, numbers: usize, slices: usize) -> bool
         ensures { (result ≡ true) ↔ Shape numbers slices self.now.ends.now }
@@ -217,7 +218,7 @@ impl<'a> Arguments<'a> {
     }
 
     // Argument i, counted from 0. An end past the last number stands for the last.
-    pub fn argument(&self, i: usize) -> &'a [u32]
+    pub fn argument(&self, i: usize) -> &'v [u32]
         ensures { result.now ≡ argument_of self.now.values.now self.now.ends.now i }
     {
         let end = self.end_at(i).min(self.values.len());
