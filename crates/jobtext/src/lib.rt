@@ -1,11 +1,11 @@
 // The text job: a plain text with the numbers of a job, for people.
 #![tactic(auto)]
 
-ghost use Rattle.std.specs.Prelude.{◌≡◌, ◌++◌, length, drop};
+ghost use Rattle.std.specs.Prelude.{◌≡◌, ◌≤◌, ◌++◌, length, drop};
 ghost use Rattle.report.specs.Appended.{RoomFor, Appended};
 ghost use Rattle.field.specs.ModulusTest.{is_modulus};
 ghost use Rattle.tokens.specs.Taking.{IsPosition};
-ghost use Rattle.jobtext.specs.Job.{job_of_text, slip_of, is_count, is_below};
+ghost use Rattle.jobtext.specs.Job.{job_of_text, from_type, slip_of, is_count, is_below};
 ghost use Rattle.jobtext.specs.Message.{moduli_words, slip_words, message};
 ghost use Rattle.jobtext.specs.Reading.{ahead, fault_at, Takes, Passes, Fills, Ends, Follows};
 
@@ -128,7 +128,9 @@ impl Reader<'_> {
         }
     }
 
-    // As many numbers as out has places, each below the limit.
+    // As many numbers as out has places, each below the limit. It stays a function in the compiled code, since its loop takes a third more time
+    // where it is inlined.
+    #[inline(never)]
     fn numbers(&mut self, limit: u32, slip: Slip, out: &mut [u32]) -> Result<(), Fault>
         ensures { Fills (is_below limit) slip (ahead self.old.text.now self.old.here) out.new result (ahead self.new.text.now self.new.here) }
     {
@@ -150,6 +152,30 @@ impl Reader<'_> {
             Err(_) => Ok(()),
         }
     }
+
+    // What stands behind the sizes, which are answered again. The type and the series are kept apart until the text is known to be right, in
+    // arrays of the largest size, since there is no heap. They have a function of their own, so that they are cleared once, and not for a text
+    // whose sizes are wrong.
+    fn type_and_series(
+        &mut self,
+        sizes: JobSizes,
+        types: &mut [u32; 8],
+        series: &mut [u32; 2040],
+    ) -> Result<JobSizes, Fault>
+        requires { (sizes.n ≤ 8) × (sizes.s ≤ 255) }
+        ensures { Follows (from_type sizes.p sizes.n sizes.s (ahead self.old.text.now self.old.here)) result types.old types.new series.old series.new }
+    {
+        let mut d = [0u32; 8];
+        let mut f = [0u32; 2040];
+        let entries = sizes.n as usize;
+        let coefficients = entries * sizes.s as usize;
+        self.numbers(256, Slip::Entry, &mut d[..entries])?;
+        self.numbers(sizes.p, Slip::Coefficient, &mut f[..coefficients])?;
+        self.end()?;
+        types[..entries].copy_from_slice(&d[..entries]);
+        series[..coefficients].copy_from_slice(&f[..coefficients]);
+        Ok(sizes)
+    }
 }
 
 // The job of a text: p, n and s are answered, the type and the series written to the lent buffers; or what is wrong and on which line, and nothing is written.
@@ -163,17 +189,7 @@ pub fn parse(text: &[u8], types: &mut [u32; 8], series: &mut [u32; 2040]) -> Res
     let p = reader.modulus()?;
     let n = reader.count()?;
     let s = reader.below(256, Slip::Order)?;
-    // The type and the series are kept apart until the text is known to be right, in arrays of the largest size, since there is no heap.
-    let mut d = [0u32; 8];
-    let mut f = [0u32; 2040];
-    let entries = n as usize;
-    reader.numbers(256, Slip::Entry, &mut d[..entries])?;
-    let coefficients = entries * s as usize;
-    reader.numbers(p, Slip::Coefficient, &mut f[..coefficients])?;
-    reader.end()?;
-    types[..entries].copy_from_slice(&d[..entries]);
-    series[..coefficients].copy_from_slice(&f[..coefficients]);
-    Ok(JobSizes { p, n, s })
+    reader.type_and_series(JobSizes { p, n, s }, types, series)
 }
 
 // The words of a message, put and not displayed, since each byte is promised. Which moduli are admitted.
