@@ -3,11 +3,11 @@ use mathlib.Core.Path.{refl}
 use borrow.Author.Rules.{rules}
 use Rattle.report.specs.Calls.{text_says}
 use Rattle.embed.proofs.Given.{given_result}
-use Rattle.embed.proofs.Text.{print_text_fits}
+use Rattle.embed.proofs.Text.{print_text_fits, fits_word}
 use Rattle.embed.proofs.relations_print.Goals as goal
 
 pub tell-requires-clause-fits : goal.tell-requires-clause-fits
-tell-requires-clause-fits c = print_text_fits _ _ _ c.print_job.result (search rules) c.print_job.ensures
+tell-requires-clause-fits c = fits_word c.print_job.result (print_text_fits _ _ _ c.print_job.result (search rules) c.print_job.ensures)
 
 pub returns : goal.returns
 returns c =

@@ -3,11 +3,11 @@ use mathlib.Core.Path.{refl}
 use borrow.Author.Rules.{rules}
 use Rattle.report.specs.Calls.{text_says}
 use Rattle.embed.proofs.Given.{given_result}
-use Rattle.embed.proofs.Text.{refusal_text_fits}
+use Rattle.embed.proofs.Text.{refusal_text_fits, fits_word}
 use Rattle.embed.proofs.relations_refused.Goals as goal
 
 pub tell-requires-clause-fits : goal.tell-requires-clause-fits
-tell-requires-clause-fits c = refusal_text_fits _ _ _ c.write_refusal.result (search rules) c.write_refusal.ensures
+tell-requires-clause-fits c = fits_word c.write_refusal.result (refusal_text_fits _ _ _ c.write_refusal.result (search rules) c.write_refusal.ensures)
 
 pub returns : goal.returns
 returns c =
